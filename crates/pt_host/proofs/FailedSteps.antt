@@ -26,7 +26,7 @@ use Rattle.pt_host.specs.Made.{IsRun}
 use Rattle.pt_host.specs.Served.{IsServed, IsSetUp}
 
 -- a count that changed changed by a failure
-counted : {T : Type 0} (old new : ℕ) (result : Result T TreeFault) → IsCounted old new result → (new ≡ old) ⊎ (result ≡ Err Device)
+pub counted : {T : Type 0} (old new : ℕ) (result : Result T TreeFault) → IsCounted old new result → (new ≡ old) ⊎ (result ≡ Err Device)
 counted old new (Ok x) same = inl same
 counted old new (Err Memory) same = inl same
 counted old new (Err Device) risen = inr refl
@@ -59,12 +59,12 @@ module _ {S F D : Type 0} {sys : OfSystem S F D} {handle : OfHandle F} {file : O
       by (inl same) (inr failed) = inr (record { old = mid; new = last; before = steps; step = step; failed = failed; after = none })
 
 -- the destination is blamed exactly where it failed
-dest_counts : (job : Job) (rehearse : Bool) (was : Option Writing) (old new : DeviceStates) (ran : Result Report Fault) → rehearse ≡ false
+pub dest_counts : (job : Job) (rehearse : Bool) (was : Option Writing) (old new : DeviceStates) (ran : Result Report Fault)
     → IsRun job rehearse was old new ran → Counts 2 old.failures.dest new.failures.dest ran
-dest_counts job true was old new ran is run = absurd (cc)
-dest_counts job false was old new ran is run = run.promises.dest
+dest_counts job true was old new ran run = run.promises.dest
+dest_counts job false was old new ran run = run.promises.dest
 
-risen : (failed : ℕ) (ran : Result Report Fault) → ran ≡ Err fault.Dest → Counts 2 0 failed ran → failed ≡ 0 → ⊥
+pub risen : (failed : ℕ) (ran : Result Report Fault) → ran ≡ Err fault.Dest → Counts 2 0 failed ran → failed ≡ 0 → ⊥
 risen failed (Ok report) is counts never = absurd (cc)
 risen failed (Err fault.Dest) is counts never = omega (arith, counts, never)
 risen failed (Err why) is counts never = absurd (cc)
@@ -85,7 +85,7 @@ module _ {S D F R W : Type 0} (sys : OfSystem D F R) (handle : OfHandle F) (file
       last = made.8.2.0
 
       blamed : made.3.dest ≡ 0 → ⊥
-      blamed = risen made.3.dest made.4.0 is (dest_counts call.options.job call.options.rehearse _ _ _ made.4.0 real made.4.1)
+      blamed = risen made.3.dest made.4.0 is (dest_counts call.options.job call.options.rehearse _ _ _ made.4.0 made.4.1)
 
       by : (last.failures ≡ first.failures) ⊎ HasFailedStep first last → (first last : HostDest D F R sys handle file dir)
           × IsSetUp call.options call.folder lent.folder first × HasFailedStep first last × (system_of last ≡ left.folder)

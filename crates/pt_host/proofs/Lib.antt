@@ -4,6 +4,7 @@ mod AuditFailed
 mod Begun
 mod CameSo
 mod Checked
+mod FailedCalls
 mod FailedSteps
 mod LeftUnmet
 mod ListedEnds

@@ -1,19 +1,35 @@
 -- What a run asks of its destination.
-use Rattle.std.specs.Prelude.{◌≡◌, ◌+◌, ⊤, ℕ, Bool, true, false, List, None}
-use Rattle.pt_folder.specs.HostDest.{failures_of, folder_path, longest_of, unsynced_of, synced_of, system_of, writing_of}
+use Rattle.std.specs.Prelude.{◌≡◌, ◌+◌, ℕ, Bool, true, false, List, None}
+use Rattle.pt_folder.specs.HostDest.{failures_of, folder_path, lasting, longest_of, unsynced_of, synced_of, system_of, writing_of}
 use Rattle.pt_folder.specs.Steps.{Steps}
 use Rattle.pt_folder.specs.declared.dest.HostDest.{HostDest}
 use Rattle.pt_folder.specs.declared.system.Handle.{Ghosts as OfHandle}
 use Rattle.pt_folder.specs.declared.system.Input.{Ghosts as OfInput}
 use Rattle.pt_folder.specs.declared.system.System.{Ghosts as OfSystem}
+use Rattle.pt_rehearsal.specs.Calls.{Calls, dest_of, memory_of}
+use Rattle.pt_rehearsal.specs.Seeing.{nothing}
+use Rattle.pt_rehearsal.specs.declared.rehearsal.Rehearsal.{Rehearsal}
 use Rattle.pt_host.specs.Room.{place_overhead}
 use Rattle.pt_host.specs.declared.options.RunOptions.{RunOptions}
 
 module _ {S F D : Type 0} {sys : OfSystem S F D} {handle : OfHandle F} {file : OfInput F}
     {dir : OfInput D} where
-  -- calls lead from one destination to another, each as it is set; of a rehearsal, which makes nothing there, that isn't said
+  -- a rehearsal over a destination, set as that is, of which nothing is unsynced; it remembers nothing
+  pub record BeginsOver (dest : HostDest S F D sys handle file dir) (first : Rehearsal S F D sys handle file dir)
+      : Type 0 where
+    pub still : lasting (dest_of first) ≡ lasting dest
+    pub longest : longest_of (dest_of first) ≡ longest_of dest
+    pub unsynced : unsynced_of (dest_of first) ≡ None
+    pub empty : memory_of first ≡ nothing
+
+  -- calls of a rehearsal over one destination lead to another, each by what is remembered then
+  abbrev pub IsRehearsed : (old new : HostDest S F D sys handle file dir) → Type 0
+  IsRehearsed old new = (first last : Rehearsal S F D sys handle file dir)
+      × BeginsOver old first × Calls first last × (new ≡ dest_of last)
+
+  -- calls lead from one destination to another, each as it is set; or those of a rehearsal over it do
   abbrev pub IsServed : Bool → (old new : HostDest S F D sys handle file dir) → Type 0
-  IsServed true old new = ⊤
+  IsServed true old new = IsRehearsed old new
   IsServed false old new = Steps old new
 
   -- the same to one over this system, at which so many calls failed

@@ -8,13 +8,15 @@
 //! the check's did, has no such file open, and can count a failure more (`NoRunIsHaltedForSource`).
 //! So it is with the program's own calls where the system of the store tells the paths at which it
 //! fails (`NoRunIsHaltedAfterQuietCheck`); the real one doesn't. Where a run that is no rehearsal
-//! answers `Dest`, a call of its destination failed (`DestFaultMeansFailedStep`). The fault of an
-//! audit comes of what failed, too (`AuditFaultMeansFailedCall`).
+//! answers `Dest`, a call of its destination failed (`DestFaultMeansFailedStep`), and where a
+//! rehearsal does, a call of that did (`RehearsalFaultMeansFailedCall`). The fault of an audit comes
+//! of what failed, too (`AuditFaultMeansFailedCall`).
 ghost use Rattle.pt_host.specs.AuditFaultLaw.{AuditFaultMeansFailedCall};
 ghost use Rattle.pt_host.specs.DestFaultLaw.{DestFaultMeansFailedStep};
 ghost use Rattle.pt_host.specs.Machine.{host_io_words};
 ghost use Rattle.pt_host.specs.QuietCheckLaw.{NoRunIsHaltedForSource};
 ghost use Rattle.pt_host.specs.QuietStoreLaw.{NoRunIsHaltedAfterQuietCheck};
+ghost use Rattle.pt_host.specs.RehearsalFaultLaw.{RehearsalFaultMeansFailedCall};
 ghost use Rattle.pt_host.specs.RehearsalLaw.{RehearsalTellsTheRun};
 ghost use Rattle.pt_host.specs.Room.{RoomIsThatOfStaging};
 
@@ -47,6 +49,14 @@ pub fn no_run_is_halted_after_quiet_check<H: Host>()
 /// path is that is too long.
 pub fn fault_of_dest_comes_of_a_failed_call<S: System, D: System, W: Write>()
     ensures { DestFaultMeansFailedStep D.System D.File.Handle.own D.File.Input D.Dir.Input
+        (host_io_words S.forest S.failing D.kept W.contents) }
+{}
+
+/// Where a rehearsal over what a machine lends answers `Dest`, a call of it failed, of all those
+/// that it made: a call of the system did, as it looked; or it was refused, as a path is that is too
+/// long, and one at which it doesn't know what the run would find or make.
+pub fn fault_of_a_rehearsal_comes_of_a_failed_call<S: System, D: System, W: Write>()
+    ensures { RehearsalFaultMeansFailedCall D.System D.File.Handle.own D.File.Input D.Dir.Input
         (host_io_words S.forest S.failing D.kept W.contents) }
 {}
 

@@ -29,7 +29,7 @@
 //!   `Source`, if the source tells where it fails (`NoRunIsHaltedForSource`,
 //!   `NoRunIsHaltedAfterQuietCheck`).
 //! - The fault of an audit comes of what failed (`AuditFaultMeansFailedCall`). So do fault 3 of a
-//!   run and a check (`LogFailsBy`), and 2 of a run, not a rehearsal (`DestFaultMeansFailedStep`).
+//!   run and a check (`LogFailsBy`), and 2 of a run (`DestFaultMeansFailedStep`) or a rehearsal.
 //!
 //! Guarantees of README that rest on its definitions: An audit is exact.
 #![tactic(auto)]

@@ -11,7 +11,7 @@
 //! file and no fault ended the run, all that the output then holds was put onto the disk by it, or
 //! nothing was written (`IsLogged`); and the log is blamed only where a piece of it couldn't be put
 //! (`LogFailsBy`). The system of DEST is left as calls left it of a destination that is set as
-//! wanted, to its end (`Serves`); of a rehearsal, which makes nothing there, that isn't said.
+//! wanted, or of a rehearsal over that, to its end (`Serves`).
 ghost use Rattle.pt_messages.specs.Expected.{AsksEnd};
 ghost use Rattle.pt_messages.specs.declared.watch.Words.TheVariants.{Run};
 ghost use Rattle.pt_plan.specs.declared.fault.Fault.TheVariants.{Log};

@@ -1,4 +1,5 @@
 pub mod Buckets
+pub mod Calls
 pub mod Fitting
 pub mod Noted
 pub mod Rehearsal

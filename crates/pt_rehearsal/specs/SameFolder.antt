@@ -1,7 +1,8 @@
 -- What a rehearsal leaves of the folder that it looks at, and what it asks of the system.
-use Rattle.std.specs.Prelude.{◌≡◌, ◌≢◌, ◌⊎◌, [], length, OnOk, OnErr, Result}
+use Rattle.std.specs.Prelude.{◌≡◌, ◌≢◌, ◌⊎◌, [], length, OnOk, OnErr, Result, Err}
 use Rattle.pt_tree.specs.Path.{Path}
 use Rattle.pt_tree.specs.declared.faults.TreeFault.{TreeFault}
+use Rattle.pt_tree.specs.declared.faults.TreeFault.TheVariants.{Device}
 use Rattle.pt_folder.specs.Calls.{IsThere}
 use Rattle.pt_folder.specs.HostDest.{Looks, folder_of, folder_path, kept_by, longest_of, unsynced_of, synced_of, system_of, writing_of}
 use Rattle.pt_folder.specs.Settings.{IsSetAs}
@@ -29,3 +30,7 @@ module _ {S F D : Type 0} {sys : OfSystem S F D} {handle : OfHandle F} {file : O
       ((system_of new ≡ system_of old) × OnOk result (length p ≢ 1))
       ⊎ ((looked : Result (Unit {0}) TreeFault) × Looks IsThere old new [] looked
       × OnErr looked (result ≡ looked))
+
+  -- the system is asked once to look at the folder itself, and that fails
+  abbrev pub MissesFolder : (old new : HostDest S F D sys handle file dir) → Type 0
+  MissesFolder old new = Looks IsThere old new [] (Err Device)

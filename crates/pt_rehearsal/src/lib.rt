@@ -21,6 +21,8 @@
 //!   isn't hidden is as in the folder.
 //! - It refuses, with `Device`, exactly what it doesn't know (rehearsal.rt). That a run asks for
 //!   none of it isn't proved: tests/cases/options.py rehearses every run of the other tests.
+//! - How it came to what it is is known call by call: what each asked of the system, and why it was
+//!   refused, where it was (`Calls`).
 //!
 //! No guarantee of README rests on its definitions.
 #![tactic(auto)]

@@ -15,7 +15,7 @@ ghost use Rattle.pt_folder.specs.HostDest.{failures_of, folder_path, kept_by, la
 ghost use Rattle.pt_folder.specs.HostDest.{unsynced_of, system_of, told as told_by};
 ghost use Rattle.pt_rehearsal.specs.Fitting.{FitsTold};
 ghost use Rattle.pt_tree.specs.Failures.{IsCounted};
-ghost use Rattle.pt_rehearsal.specs.SameFolder.{LooksAtFolder, SameFolder};
+ghost use Rattle.pt_rehearsal.specs.SameFolder.{LooksAtFolder, MissesFolder, SameFolder};
 ghost use Rattle.pt_rehearsal.specs.Seeing.{Remembers, made_dir, made_file, moved_to, nothing};
 ghost use Rattle.pt_rehearsal.specs.Seeing.{view};
 
@@ -82,7 +82,8 @@ impl<'a, S: System> Dest for Rehearsal<'a, S> {
     ghost use Rattle.pt_tree.specs.Dest.{MayMake, MayMove};
     ghost use Rattle.pt_tree.specs.Dest.{after_mkdir, after_create, after_append, after_finish};
     ghost use Rattle.pt_tree.specs.Dest.{after_rename};
-    ghost use Rattle.pt_rehearsal.specs.Rehearsal.{IsCall, IsSame, LooksUnlessKnown};
+    ghost use Rattle.pt_rehearsal.specs.Calls.{NoDirMade, Rehearses, calls_on, none};
+    ghost use Rattle.pt_rehearsal.specs.Rehearsal.{IsCall, LooksUnlessKnown};
     ghost use Rattle.pt_rehearsal.specs.Rehearsal.{PeeksUnlessKnown, told};
     ghost use Rattle.pt_rehearsal.specs.Told.{tree_of_rehearsal};
 
@@ -90,18 +91,22 @@ impl<'a, S: System> Dest for Rehearsal<'a, S> {
 
     ghost failed = { λ d. failures_of d.dest };
 
-    // Nothing is made or changed: the system keeps of the folder what it kept.
-    ghost keeps = { IsSame };
+    // Nothing is made or changed: the system keeps of the folder what it kept. And each call has
+    // asked the system by what is remembered.
+    ghost keeps = { Rehearses };
 
-    ghost is_kept = { λ _. (refl, (refl, refl), refl, refl, refl) };
+    ghost is_kept = { λ _. ((refl, (refl, refl), refl, refl, refl), none) };
 
-    ghost keeps_on = { λ _ b c p q. (
-      q.0 ∙ p.0,
-      (q.1.0 ∙ p.1.0, q.1.1 ∙ p.1.1),
-      q.2 ∙ p.2,
-      q.3 ∙ p.3,
-      subst (λ f. S.kept (system_of c.dest) f.path.now ≡ S.kept (system_of b.dest) f.path.now)
-          p.0 q.4 ∙ p.4,
+    ghost keeps_on = { λ a b c p q. (
+      (
+        q.0.0 ∙ p.0.0,
+        (q.0.1.0 ∙ p.0.1.0, q.0.1.1 ∙ p.0.1.1),
+        q.0.2 ∙ p.0.2,
+        q.0.3 ∙ p.0.3,
+        subst (λ f. S.kept (system_of c.dest) f.path.now ≡ S.kept (system_of b.dest) f.path.now)
+            p.0.0 q.0.4 ∙ p.0.4,
+      ),
+      calls_on a b c p.1 q.1,
     ) };
 
     ghost is_tree = { λ d state is.
@@ -149,9 +154,7 @@ impl<'a, S: System> Dest for Rehearsal<'a, S> {
         ensures fits { OnOk result (length (entry_text (folder_path self.old.dest) path.now)
             ≤ longest_of self.old.dest) }
         ensures asked { LooksAtFolder self.old.dest self.new.dest path.now result }
-        ensures refused { OnDevice result ((length path.now ≡ 1)
-            ⊎ (CannotMake (longest_of self.old.dest) (folder_path self.old.dest) path.now
-            ⊎ (made_dir (view self.old.remembered) path.now ≡ None))) }
+        ensures refused { OnDevice result (NoDirMade self.old self.new path.now) }
         ensures remembered { Remembers (made_dir (view self.old.remembered) path.now) result
             (view self.old.remembered) (view self.new.remembered) }
         ensures call { IsCall self.old self.new result }
@@ -240,7 +243,7 @@ fn may_make_dir<S: System>(dest: &mut HostDest<'_, S>, path: &NamePath) -> Resul
     ensures fits { OnOk result (length (entry_text (folder_path dest.old) path.now)
         ≤ longest_of dest.old) }
     ensures asked { LooksAtFolder dest.old dest.new path.now result }
-    ensures refused { OnDevice result ((length path.now ≡ 1)
+    ensures refused { OnDevice result (MissesFolder dest.old dest.new
         ⊎ CannotMake (longest_of dest.old) (folder_path dest.old) path.now) }
     ensures stays { SameFolder dest.old dest.new }
     ensures failures { IsCounted (failures_of dest.old) (failures_of dest.new) result }

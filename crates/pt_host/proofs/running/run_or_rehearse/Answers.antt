@@ -16,7 +16,7 @@ returns-then-rehearse-clause-promises g c =
     rw (c.end_of.ensures.dest, c.end_of.ensures.ran)
     (rehearsed c.args.task.job (dest_told (g.D.System.kept c.args.dest.syscalls.system c.args.dest.folder.path.now) None None) _ _ _ _ _ _ _ _ _
     c.args.task.rehearse (told begun) (told ended) _ _ _ _ begun.dest.failures ended.dest.failures
-    c.if-rehearse.true c.new-rehearsal.ensures.told (tells_still begun ended c.migrate_observed-ran.ensures.run.dest_stays)
+    c.if-rehearse.true c.new-rehearsal.ensures.told (tells_still begun ended c.migrate_observed-ran.ensures.run.dest_stays.0)
     (ap (λ t. t.3) c.new-rehearsal.ensures.still) (ap (λ d. d.failures) (sym c.into_dest-dest.ensures)) c.migrate_observed-ran.ensures.run.promises)
 
 pub returns-clause-promises : goal.returns-clause-promises
@@ -25,7 +25,15 @@ returns-clause-promises g c = rw (c.end_of-2.ensures.dest, c.end_of-2.ensures.ra
     c.args.task.rehearse _ _ _ _ c.if-rehearse.false c.migrate_observed-ran-2.ensures.run.promises)
 
 pub returns-then-rehearse-clause-served : goal.returns-then-rehearse-clause-served
-returns-then-rehearse-clause-served g c = rw c.if-rehearse.true tt
+returns-then-rehearse-clause-served g c =
+    let begun = c.new-rehearsal.ensures in
+    rw c.if-rehearse.true (
+      c.new-rehearsal.result,
+      c.migrate_observed-ran.new.dest,
+      record { still = begun.still; longest = begun.longest; unsynced = begun.unsynced; empty = begun.remembered },
+      c.migrate_observed-ran.ensures.run.dest_stays.1,
+      c.end_of.ensures.dest ∙ c.into_dest-dest.ensures,
+    )
 
 pub returns-clause-served : goal.returns-clause-served
 returns-clause-served g c = rw (c.if-rehearse.false, c.end_of-2.ensures.dest) c.migrate_observed-ran-2.ensures.run.dest_stays.1
@@ -33,7 +41,7 @@ returns-clause-served g c = rw (c.if-rehearse.false, c.end_of-2.ensures.dest) c.
 pub returns-then-rehearse-clause-unsynced : goal.returns-then-rehearse-clause-unsynced
 returns-then-rehearse-clause-unsynced g c =
     let stays = c.migrate_observed-ran.ensures.run.dest_stays in
-    λ allowed. none_unsynced_by _ _ _ _ (ap (λ d. d.unsynced) (c.end_of.ensures.dest ∙ c.into_dest-dest.ensures) ∙ stays.3 ∙ c.new-rehearsal.ensures.unsynced)
+    λ allowed. none_unsynced_by _ _ _ _ (ap (λ d. d.unsynced) (c.end_of.ensures.dest ∙ c.into_dest-dest.ensures) ∙ stays.0.3 ∙ c.new-rehearsal.ensures.unsynced)
 
 pub returns-clause-unsynced : goal.returns-clause-unsynced
 returns-clause-unsynced g c =

@@ -1,8 +1,18 @@
-use Rattle.std.proofs.Common.{refl, subst, sym}
+use Rattle.std.proofs.Common.{inr, refl, subst, sym}
+use Rattle.std.specs.Prelude.{Err, Ok, Result}
+use Rattle.pt_folder.specs.Failure.{OnDevice}
 use Rattle.pt_folder.specs.HostDest.{told as told_by}
 use Rattle.pt_rehearsal.specs.Seeing.{made_dir, view, Remembers}
 use Rattle.pt_rehearsal.proofs.Staying.{becomes_next, becomes_same, fits_dir_made, fits_still, stays_on, told_still, unasked}
+use Rattle.pt_tree.specs.declared.faults.TreeFault.{TreeFault}
+use Rattle.pt_tree.specs.declared.faults.TreeFault.TheVariants.{Device, Memory}
 use Rattle.pt_rehearsal.proofs.rehearsal.RehearsalDest.mkdir.Goals as goal
+
+-- a reason holds however it was answered
+on_device : {T : Type 0} (result : Result T TreeFault) (P : Type 0) → P → OnDevice result P
+on_device (Ok x) P it = tt
+on_device (Err Device) P it = it
+on_device (Err Memory) P it = tt
 
 pub invariant_of-self : goal.invariant_of-self
 invariant_of-self g c =
@@ -60,3 +70,10 @@ returns-then-not-branch-clause-remembered g c =
     let new = view c.make_dir.new.self in
     let same = becomes_same (made_dir old c.args.path.now) c.in_ok-make_dir.field-0 old new c.if-not-branch.true c.in_ok-make_dir.ensures.ok in
     subst (λ r. Remembers (made_dir old c.args.path.now) r old new) (sym c.refuse.ensures.refused) same.1
+
+pub returns-then-not-branch-clause-refused : goal.returns-then-not-branch-clause-refused
+returns-then-not-branch-clause-refused g c =
+    let old = view c.args.self.now.remembered in
+    let same = becomes_same (made_dir old c.args.path.now) c.in_ok-make_dir.field-0 old (view c.make_dir.new.self) c.if-not-branch.true
+    c.in_ok-make_dir.ensures.ok in
+    on_device c.refuse.result _ (inr (inr same.0))
