@@ -4,5 +4,6 @@ mod EventPuts
 mod Explained
 mod FaultTexts
 mod Grouping
+mod NameTexts
 mod PlainPut
 mod PutCounts

@@ -1,6 +1,6 @@
 -- The members of a JSON object, and its line.
-use Rattle.std.specs.Prelude.{◌≡◌, ◌⊎◌, ℕ, List, [], ◌∷◌, ◌++◌, Option, None, Some, codes, map}
-use Rattle.serde_json.specs.Data.{Data, array, string, no_members, object, put, Members as DataMembers}
+use Rattle.std.specs.Prelude.{◌≡◌, ◌⊎◌, ℕ, Bool, List, [], ◌∷◌, ◌++◌, Option, None, Some, codes, map}
+use Rattle.serde_json.specs.Data.{Data, array, boolean, string, no_members, object, put, Members as DataMembers}
 use Rattle.serde_json.specs.View.{items_of, view}
 use Rattle.serde_json.specs.Written.{compact_text}
 use Rattle.pt_messages.specs.Plain.{members_in}
@@ -40,3 +40,11 @@ PutsWhy old new = (new ≡ old)
 -- a list of texts
 abbrev pub texts_of : List (List ℕ) → Data
 texts_of texts = array (items_of (map string texts))
+
+-- members with a list of texts at a key
+abbrev pub put_texts : List ℕ → List (List ℕ) → JsonMembers → JsonMembers
+put_texts key texts members = put key (texts_of texts) members
+
+-- and with whether something is so
+abbrev pub put_flag : List ℕ → Bool → JsonMembers → JsonMembers
+put_flag key is_set members = put key (boolean is_set) members

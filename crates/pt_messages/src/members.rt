@@ -17,12 +17,14 @@ pub struct Members {
 }
 
 impl Members {
-    ghost use Rattle.std.specs.Prelude.{◌≡◌, IfOk, MatchOption, OnOk, false, map, string_bytes};
-    ghost use Rattle.serde_json.specs.Data.{boolean, no_members, number, object, unsigned};
+    ghost use Rattle.std.specs.Prelude.{◌≡◌, IfOk, OnOk, false, map, option_map, string_bytes};
+    ghost use Rattle.serde_json.specs.Data.{no_members, object};
     ghost use Rattle.serde_json.specs.Data.{put as with_member};
     ghost use Rattle.serde_json.specs.View.{view};
     ghost use Rattle.serde_json.specs.Written.{has_float};
-    ghost use Rattle.pt_messages.specs.Members.{line_of, members_of, put_text, texts_of};
+    ghost use Rattle.pt_messages.specs.Counts.{put_count};
+    ghost use Rattle.pt_messages.specs.Members.{line_of, members_of, put_flag, put_if, put_text};
+    ghost use Rattle.pt_messages.specs.Members.{put_texts};
 
     /// No members.
     pub fn new(alloc: Global) -> Members
@@ -52,8 +54,8 @@ impl Members {
 
     /// Puts a text at a key, where there is one.
     pub fn put_given(&mut self, key: &str, text: Option<&str>) -> Result<(), AllocError>
-        ensures { OnOk result (MatchOption text.entry (members_of self.new ≡ members_of self.old)
-            (λ text. members_of self.new ≡ put_text key.now text.now (members_of self.old))) }
+        ensures { OnOk result (members_of self.new
+            ≡ put_if key.now (option_map (λ text. text.now) text.entry) (members_of self.old)) }
     {
         match text {
             Some(text) => self.put_text(key, text),
@@ -64,7 +66,7 @@ impl Members {
     /// Puts a number at a key.
     pub fn put_number(&mut self, key: &str, count: u64) -> Result<(), AllocError>
         ensures { OnOk result (members_of self.new
-            ≡ with_member key.now (number (unsigned count)) (members_of self.old)) }
+            ≡ put_count key.now count (members_of self.old)) }
     {
         self.put(key, Value::from(count))
     }
@@ -72,7 +74,7 @@ impl Members {
     /// Puts at a key whether something is so.
     pub fn put_flag(&mut self, key: &str, is_set: bool) -> Result<(), AllocError>
         ensures { OnOk result (members_of self.new
-            ≡ with_member key.now (boolean is_set) (members_of self.old)) }
+            ≡ put_flag key.now is_set (members_of self.old)) }
     {
         self.put(key, Value::from(is_set))
     }
@@ -85,13 +87,14 @@ impl Members {
         self.put(key, members.object)
     }
 
-    /// Puts at a key a list of names, of those that are texts.
-    pub fn put_names(&mut self, key: &str, names: &[Name]) -> Result<(), AllocError> {
+    /// Puts at a key a list of names.
+    pub fn put_names(&mut self, key: &str, names: &[Name]) -> Result<(), AllocError>
+        ensures { OnOk result (members_of self.new
+            ≡ put_texts key.now names.now (members_of self.old)) }
+    {
         let mut texts = Vec::with_capacity(self.alloc, names.len())?;
         for name in names {
-            if let Ok(text) = str::from_utf8(name.bytes()) {
-                texts.push(String::from_str(self.alloc, text)?)?;
-            }
+            texts.push(String::from_str(self.alloc, text_of(name))?)?;
         }
         self.put_texts(key, texts.as_slice())
     }
@@ -99,7 +102,7 @@ impl Members {
     /// Puts at a key a list of texts.
     pub fn put_texts(&mut self, key: &str, texts: &[String]) -> Result<(), AllocError>
         ensures { OnOk result (members_of self.new
-            ≡ with_member key.now (texts_of (map string_bytes texts.now)) (members_of self.old)) }
+            ≡ put_texts key.now (map string_bytes texts.now) (members_of self.old)) }
     {
         let mut values = Vec::with_capacity(self.alloc, texts.len())?;
         for text in texts {
@@ -128,5 +131,15 @@ impl Members {
             Some(members) => serde_json::put(members, alloc, key, value),
             None => Ok(()),
         }
+    }
+}
+
+// The text of a name: the bytes of each are UTF-8.
+fn text_of(name: &Name) -> &str
+    ensures { result.now ≡ name.now }
+{
+    match str::from_utf8(name.bytes()) {
+        Ok(text) => text,
+        Err(_) => "",
     }
 }
