@@ -7,6 +7,7 @@ mod Checked
 mod FailedCalls
 mod FailedSteps
 mod LeftUnmet
+mod ListFiles
 mod ListedEnds
 mod LogBlamed
 mod Logged

@@ -21,6 +21,7 @@ use Rattle.pt_host.specs.Events.{event_head}
 use Rattle.pt_host.specs.HostCall.{Lend, TakeBack}
 use Rattle.pt_host.specs.Machine.{HostIoOf, HostIoWords, MachineWords}
 use Rattle.pt_host.specs.Made.{GuardsRecord, OfList, failing_at_rest}
+use Rattle.pt_host.specs.RecordedOptions.{audit_members}
 use Rattle.pt_host.specs.StoreFailures.{FailsWhereStands}
 use Rattle.pt_host.specs.Told.{CameTo}
 use Rattle.pt_host.specs.Totals.{audit_totals}
@@ -136,5 +137,6 @@ module _ {H : Type 0} (words : MachineWords H) (asks : Option (List ℕ) → Typ
   -- what `audit_guarded` does on a machine, by the words of that: the guard, with a lock that others may share, the audit that
   -- is asked for, with a list or without one, with its event, and the lock
   abbrev pub Audits : H → H → ℕ → Type 0
-  Audits = GuardsRecord words Shared (event_head (codes "audit") (call.store, call.folder) true) call.options.feedback.event
+  Audits = GuardsRecord words Shared (event_head (codes "audit") (call.store, call.folder) true (audit_members call.options))
+      call.options.feedback.event
       (OfList words call.options.job.share.list Compares)

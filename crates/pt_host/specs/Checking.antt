@@ -15,6 +15,7 @@ use Rattle.pt_host.specs.Audits.{store_tree}
 use Rattle.pt_host.specs.Durable.{LogFails}
 use Rattle.pt_host.specs.Events.{IsRecorded, event_head}
 use Rattle.pt_host.specs.HostCall.{Lend, TakeBack}
+use Rattle.pt_host.specs.RecordedOptions.{check_members}
 use Rattle.pt_host.specs.Room.{room_in}
 use Rattle.pt_host.specs.Machine.{HostIoOf, HostIoWords, MachineWords}
 use Rattle.pt_host.specs.Made.{OfList}
@@ -107,5 +108,6 @@ module _ {H : Type 0} (words : MachineWords H) (asks : Option (List ℕ) → Typ
   -- what `check_store` does on a machine, by the words of that: the check, without a lock, with a list or without one, with its event, of which
   -- it is asked only whether its file lies in the store; a fault that ended the check is told; and nothing else is asked
   abbrev pub ChecksStore : H → H → ℕ → Type 0
-  ChecksStore = IsRecorded words (event_head (codes "check") (call.store, call.store) false) call.options.feedback.event
+  ChecksStore = IsRecorded words
+      (event_head (codes "check") (call.store, call.store) false (check_members call.options)) call.options.feedback.event
       (OfList words call.options.share.list ChecksLent)

@@ -12,6 +12,7 @@ use Rattle.pt_messages.specs.EventMembers.{BeginsAs, EndsSo, PutsFolder, event_m
 use Rattle.pt_messages.specs.Members.{JsonMembers, line_of}
 use Rattle.pt_host.specs.HostCall.{MakeFile, MoveFile}
 use Rattle.pt_host.specs.Machine.{MachineWords}
+use Rattle.pt_host.specs.RecordedOptions.{AreRecorded}
 use Rattle.pt_host.specs.Told.{TellsEvent}
 use Rattle.pt_host.specs.declared.event.EventFault.{EventFault}
 use Rattle.pt_host.specs.declared.event.EventFault.TheVariants as fault
@@ -68,25 +69,26 @@ recorded_status ran (Err fault) = 3
 abbrev pub Stops : {H : Type 0} → EventFault → H → H → Result (Unit {0}) EventFault → Type 0
 Stops why mid new result = (result ≡ Err why) × (new ≡ mid)
 
--- what is made over which two folders: in a word, and whether the second is its destination; else both are its store
+-- what is made over which two folders: in a word, and whether the second is its destination, else both are its store; and what is recorded of its
+-- options, whose list, if they have one, has a file of some name
 pub record EventHead : Type 0 where
   pub word : List ℕ
   pub at : List ℕ × List ℕ
   pub has_dest : Bool
+  pub options : List ℕ → JsonMembers
 
--- this under a word, over these folders
-abbrev pub event_head : List ℕ → List ℕ × List ℕ → Bool → EventHead
-event_head word at has_dest = record { word = word; at = at; has_dest = has_dest }
+-- this under a word, over these folders, with these options
+abbrev pub event_head : List ℕ → List ℕ × List ℕ → Bool → (List ℕ → JsonMembers) → EventHead
+event_head word at has_dest options = record { word = word; at = at; has_dest = has_dest; options = options }
 
 -- a destination is put, if there is one
 abbrev pub PutsDest : Bool → List ℕ → JsonMembers → JsonMembers → Type 0
 PutsDest false path old new = new ≡ old
 PutsDest true path old new = PutsFolder (codes "dest") path old new
 
--- an event begins with what is made, in a word, its folders, and what is known of the program and its machine; and with options, of which it
--- isn't said that they are those that were given
+-- an event begins with what is made, in a word, its options, its folders, and what is known of the program and its machine
 abbrev pub BeginsWith : EventHead → JsonMembers → Type 0
-BeginsWith head begun = (options : JsonMembers) × (first : JsonMembers) × (second : JsonMembers)
+BeginsWith head begun = (options : JsonMembers) × (first : JsonMembers) × (second : JsonMembers) × AreRecorded head.options options
     × BeginsAs head.word options first × PutsFolder (codes "source") head.at.0 first second
     × PutsDest head.has_dest head.at.1 second begun
 

@@ -14,6 +14,7 @@ pub mod Output
 pub mod QuietCheckLaw
 pub mod QuietStoreLaw
 pub mod ReadSteps
+pub mod RecordedOptions
 pub mod RehearsalFaultLaw
 pub mod RehearsalLaw
 pub mod Room

@@ -37,6 +37,7 @@ use Rattle.pt_host.specs.Ends.{EndsWithList, guard_status, run_status}
 use Rattle.pt_host.specs.Events.{EventHead, IsRecorded, event_head}
 use Rattle.pt_host.specs.HostCall.{Lend, OpenOutput, TakeBack}
 use Rattle.pt_host.specs.Machine.{HostIoOf, HostIoWords, MachineWords}
+use Rattle.pt_host.specs.RecordedOptions.{run_members}
 use Rattle.pt_host.specs.Totals.{run_totals}
 use Rattle.pt_host.specs.Told.{CameTo, TellsEnd, TellsList, Tells, refusal_line}
 use Rattle.pt_host.specs.declared.host.HostIo.{HostIo}
@@ -253,6 +254,7 @@ module _ {H : Type 0} (words : MachineWords H) (asks : Option (List ℕ) → Typ
   -- what `run_guarded` does on a machine, by the words of that: the guard, with the lock for it alone, the run that is asked
   -- for, with a list or without one, with its event, and the lock
   abbrev pub Runs : H → H → ℕ → Type 0
-  Runs = GuardsRecord words Alone (event_head (run_word call.options.rehearse) (call.store, call.folder) true)
+  Runs = GuardsRecord words Alone
+      (event_head (run_word call.options.rehearse) (call.store, call.folder) true (run_members call.options))
       call.options.feedback.event
       (OfList words call.options.job.share.list Carries)

@@ -19,7 +19,7 @@ module _ {H A : Type 0} (words : MachineWords H) (asks : Option (List ℕ) → T
 
   -- what its event begins with
   abbrev pub head_of : Asked A → EventHead
-  head_of call = event_head (op.word_of call.1) call.0 op.with_dest
+  head_of call = event_head (op.word_of call.1) call.0 op.with_dest (op.options_of call.1)
 
   -- what is asked for, recorded where a file is named for its event
   abbrev pub MakesRecorded : Asked A → H × H → ℕ → Type 0

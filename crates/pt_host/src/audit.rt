@@ -62,6 +62,7 @@ impl Guarded for AuditOptions {
 
 impl Operation for AuditOptions {
     ghost use Rattle.std.specs.Prelude.{codes, true};
+    ghost use Rattle.pt_host.specs.RecordedOptions.{audit_members};
 
     ghost list_of = { λ options. options.job.share.list };
 
@@ -70,6 +71,8 @@ impl Operation for AuditOptions {
     ghost word_of = { λ _. codes "audit" };
 
     ghost with_dest = { true };
+
+    ghost options_of = { λ options. audit_members options };
 
     ghost makes = { λ words asks folders options hosts.
         Compares words asks (audit_call options folders.0 folders.1) hosts.0 hosts.1 };

@@ -63,6 +63,7 @@ where
 
 impl Operation for CheckOptions {
     ghost use Rattle.std.specs.Prelude.{codes, false};
+    ghost use Rattle.pt_host.specs.RecordedOptions.{check_members};
 
     ghost list_of = { λ options. options.share.list };
 
@@ -71,6 +72,8 @@ impl Operation for CheckOptions {
     ghost word_of = { λ _. codes "check" };
 
     ghost with_dest = { false };
+
+    ghost options_of = { λ options. check_members options };
 
     ghost makes = { λ words asks folders options hosts.
         ChecksLent words asks (check_call options folders.0) hosts.0 hosts.1 };

@@ -8,9 +8,10 @@
 //! the lock is given back, another is made at the path with `.part` behind it and renamed to the
 //! file (`EndsFile`); where that fails the status is 3. No other path is named in these calls.
 //! Where no file is named none of them is made. Why there is no event, or none with an end, is told
-//! by its own text (`TellsEvent`). The first text has what is made, in a word, and the folders as
-//! they were given (`BeginsWith`), and the second has its members too, and the status, the counts
-//! and the fault of what was made (`IsEndText`).
+//! by its own text (`TellsEvent`). The first text has what is made, in a word, its options, each
+//! under its key (recorded_options.rt), and the folders as they were given (`BeginsWith`), and the
+//! second has its members too, and the status, the counts and the fault of what was made
+//! (`IsEndText`).
 ghost use Rattle.std.specs.Prelude.{◌≡◌, ◌++◌, Err, IfOk, List, OnOk, Some, codes, option_map};
 ghost use Rattle.std.specs.Prelude.{string_bytes, ℕ};
 ghost use Rattle.std.specs.Result.{result_ok};
@@ -192,8 +193,8 @@ impl EventFile {
         ensures part { IfOk result (λ file. file.part ≡ path.now ++ codes ".part") }
         ensures begun { IfOk result (λ file. BeginsWith
             (event_head (O.word_of operation.now)
-            (folders.entry.store.now, folders.entry.folder.now) O.with_dest)
-            (event_members file.event)) }
+            (folders.entry.store.now, folders.entry.folder.now) O.with_dest
+            (O.options_of operation.now)) (event_members file.event)) }
         ensures text { IfOk result (λ file. string_bytes file.text
             ≡ line_of (event_members file.event)) }
     {
@@ -366,7 +367,8 @@ where
     R: Reads + Clock + AllocGlobal,
     ensures { BeginsEvent ⟦<H as Machine>⟧.words
         (event_head (O.word_of operation.now)
-        (folders.entry.store.now, folders.entry.folder.now) O.with_dest)
+        (folders.entry.store.now, folders.entry.folder.now) O.with_dest
+        (O.options_of operation.now))
         (O.feedback_of operation.now).event host.old host.new result }
 {
     let Some(path) = operation.feedback().event() else {

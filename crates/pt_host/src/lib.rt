@@ -21,7 +21,7 @@
 //!   lent and given back; it asks for no lock (`ChecksStore`, `ChecksOver`).
 //! - The fault that ended one of these is told once, by its own line (`TellsEnd`); so is why one
 //!   may not begin (`refusal_line`), and why there is no event (`TellsEvent`).
-//! - Where a file is named for its event, each of them is recorded in it (`IsRecorded`).
+//! - Where a file is named for its event, each is recorded in it, with its options (`IsRecorded`).
 //! - A rehearsal leaves all that the system keeps of DEST (`LeavesKept`); where it and the run that
 //!   it rehearses both end well, logs and statuses are the same (`RehearsalTellsTheRun`).
 //! - `DurableLog`: a log whose lines are put onto the disk where it has a file (`IsPutBehind`).

@@ -3,10 +3,12 @@
 //! Each says what its event records, and what making it comes to, and a run and an audit which lock
 //! they want; how one is guarded, recorded and held against a list is the same for all
 //! (guarded.rt).
-ghost use Rattle.std.specs.Prelude.{◌≡◌, ℕ, Bool, is_some, List, Option};
+ghost use Rattle.std.specs.Prelude.{◌≡◌, ℕ, Bool, IfOk, is_some, List, Option};
 ghost use Rattle.pt_guard.specs.declared.places.Claim.{Claim};
 ghost use Rattle.pt_messages.specs.Expected.{AsksEnd};
+ghost use Rattle.pt_messages.specs.Members.{JsonMembers, members_of};
 ghost use Rattle.pt_host.specs.Machine.{MachineWords};
+ghost use Rattle.pt_host.specs.RecordedOptions.{AreRecorded};
 ghost use Rattle.pt_host.specs.declared.operation.Conclusion.{Conclusion};
 ghost use Rattle.pt_host.specs.declared.options.Feedback.{Feedback};
 
@@ -49,6 +51,9 @@ pub(crate) trait Operation {
     /// Whether it has a destination.
     ghost with_dest: { Bool };
 
+    /// What its event records of its options, whose list, if it has one, has a file of this name.
+    ghost options_of: { Self → List ℕ → JsonMembers };
+
     /// Making it over these two folders takes a machine, by its words, from one state to another,
     /// which are a pair, and ends so. The log that `--expect` names is asked for its end.
     ghost makes: { {H : Type 0} → MachineWords H → (Option (List ℕ) → Type 0)
@@ -72,7 +77,8 @@ pub(crate) trait Operation {
 
     /// Every option by its name, with what it says or means where it isn't given; one that has
     /// nothing to say is left out. An error where a growth was refused.
-    fn members(&self, alloc: Global) -> Result<Members, AllocError>;
+    fn members(&self, alloc: Global) -> Result<Members, AllocError>
+        ensures { IfOk result (λ made. AreRecorded (options_of self.now) (members_of made)) };
 
     /// Makes it over what the machine lends, which is given back, and gives how it ended. Of that
     /// nothing is told.

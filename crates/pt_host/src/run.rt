@@ -82,6 +82,7 @@ impl Guarded for RunOptions {
 impl Operation for RunOptions {
     ghost use Rattle.std.specs.Prelude.{true};
     ghost use Rattle.pt_host.specs.Made.{run_word};
+    ghost use Rattle.pt_host.specs.RecordedOptions.{run_members};
 
     ghost list_of = { λ options. options.job.share.list };
 
@@ -90,6 +91,8 @@ impl Operation for RunOptions {
     ghost word_of = { λ options. run_word options.rehearse };
 
     ghost with_dest = { true };
+
+    ghost options_of = { λ options. run_members options };
 
     ghost makes = { λ words asks folders options hosts.
         Carries words asks (run_call options folders.0 folders.1) hosts.0 hosts.1 };

@@ -29,7 +29,8 @@ returns g c =
       fails = FailsBetween g.H.Folder.System g.H.Folder.File.Handle g.H.Folder.File.Input g.H.Folder.Dir.Input;
     } in
     let at : List ℕ × List ℕ = (c.args.folders.store.now, c.args.folders.folder.now) in
-    let head : EventHead = event_head (g.O.Operation.word_of c.args.operation.now) at g.O.Operation.with_dest in
+    let head : EventHead = event_head (g.O.Operation.word_of c.args.operation.now) at g.O.Operation.with_dest
+    (g.O.Operation.options_of c.args.operation.now) in
     begun_event words head (g.O.Operation.feedback_of c.args.operation.now).event c.in-Some.path.now
     c.in_ok-file.file (record { file = c.paths.result.file.now; part = c.paths.result.part.now; text = c.as_str.result.now })
     c.args.host.now c.make.new.host
@@ -57,7 +58,8 @@ returns-in_err-file g c =
       fails = FailsBetween g.H.Folder.System g.H.Folder.File.Handle g.H.Folder.File.Input g.H.Folder.Dir.Input;
     } in
     let at : List ℕ × List ℕ = (c.args.folders.store.now, c.args.folders.folder.now) in
-    let head : EventHead = event_head (g.O.Operation.word_of c.args.operation.now) at g.O.Operation.with_dest in
+    let head : EventHead = event_head (g.O.Operation.word_of c.args.operation.now) at g.O.Operation.with_dest
+    (g.O.Operation.options_of c.args.operation.now) in
     let given = sym (c.event.ensures ∙ ap (λ f. f.event) c.feedback.ensures) ∙ ap (option_map (λ p. p.now)) c.in-Some.is in
     let p = err_from_is_err_and c.from_residual.result c.from_residual.ensures.1 in
     let memory : p.0 ≡ fault.Memory = p.2 in
@@ -84,7 +86,8 @@ returns-in_err-make g c =
       fails = FailsBetween g.H.Folder.System g.H.Folder.File.Handle g.H.Folder.File.Input g.H.Folder.Dir.Input;
     } in
     let at : List ℕ × List ℕ = (c.args.folders.store.now, c.args.folders.folder.now) in
-    let head : EventHead = event_head (g.O.Operation.word_of c.args.operation.now) at g.O.Operation.with_dest in
+    let head : EventHead = event_head (g.O.Operation.word_of c.args.operation.now) at g.O.Operation.with_dest
+    (g.O.Operation.options_of c.args.operation.now) in
     let given = sym (c.event.ensures ∙ ap (λ f. f.event) c.feedback.ensures) ∙ ap (option_map (λ p. p.now)) c.in-Some.is in
     let p = err_from_is_err_and c.from_residual-in_err-make.result c.from_residual-in_err-make.ensures.1 in
     let why : p.0 ≡ c.in_err-make.field-0.0 = p.2 in

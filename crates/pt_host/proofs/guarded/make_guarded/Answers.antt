@@ -39,7 +39,8 @@ returns-in-Held g c =
     let at : List ℕ × List ℕ = (c.args.folders.store.now, c.args.folders.folder.now) in
     let makes : g.row.H.Denot → g.row.H.Denot → Conclusion → Type 0 =
     λ old new. Makes words (AsksEnd reading) g.O.Operation (at, c.args.operation) (old, new) in
-    let head : EventHead = event_head (g.O.Operation.word_of c.args.operation) at g.O.Operation.with_dest in
+    let head : EventHead = event_head (g.O.Operation.word_of c.args.operation) at g.O.Operation.with_dest
+    (g.O.Operation.options_of c.args.operation) in
     let recorded : g.row.H.Denot → g.row.H.Denot → ℕ → Type 0 =
     IsRecorded words head (g.O.Operation.feedback_of c.args.operation).event makes in
     let mid = c.check_guard.new.host in
@@ -81,7 +82,8 @@ returns-in-Unheld g c =
     let at : List ℕ × List ℕ = (c.args.folders.store.now, c.args.folders.folder.now) in
     let makes : g.row.H.Denot → g.row.H.Denot → Conclusion → Type 0 =
     λ old new. Makes words (AsksEnd reading) g.O.Operation (at, c.args.operation) (old, new) in
-    let head : EventHead = event_head (g.O.Operation.word_of c.args.operation) at g.O.Operation.with_dest in
+    let head : EventHead = event_head (g.O.Operation.word_of c.args.operation) at g.O.Operation.with_dest
+    (g.O.Operation.options_of c.args.operation) in
     let recorded : g.row.H.Denot → g.row.H.Denot → ℕ → Type 0 =
     IsRecorded words head (g.O.Operation.feedback_of c.args.operation).event makes in
     let mid = c.check_guard.new.host in

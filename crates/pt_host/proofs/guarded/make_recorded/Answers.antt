@@ -39,7 +39,8 @@ returns-in-Ok g c =
     let at : List ℕ × List ℕ = (c.args.folders.store.now, c.args.folders.folder.now) in
     let makes : g.row.H.Denot → g.row.H.Denot → Conclusion → Type 0 =
     λ old new. Makes words (AsksEnd reading) g.O.Operation (at, c.args.operation) (old, new) in
-    let head : EventHead = event_head (g.O.Operation.word_of c.args.operation) at g.O.Operation.with_dest in
+    let head : EventHead = event_head (g.O.Operation.word_of c.args.operation) at g.O.Operation.with_dest
+    (g.O.Operation.options_of c.args.operation) in
     recorded words head makes (g.O.Operation.feedback_of c.args.operation).event c.in-Ok.event c.args.host.now c.begin_event.new.host
     c.make_told-made.new.host c.end_event.new.host c.make_told-made.result c.end_event.result c.in-Ok.ensures c.make_told-made.ensures
     c.end_event.ensures
@@ -73,6 +74,7 @@ returns-in-Err g c =
     let at : List ℕ × List ℕ = (c.args.folders.store.now, c.args.folders.folder.now) in
     let makes : g.row.H.Denot → g.row.H.Denot → Conclusion → Type 0 =
     λ old new. Makes words (AsksEnd reading) g.O.Operation (at, c.args.operation) (old, new) in
-    let head : EventHead = event_head (g.O.Operation.word_of c.args.operation) at g.O.Operation.with_dest in
+    let head : EventHead = event_head (g.O.Operation.word_of c.args.operation) at g.O.Operation.with_dest
+    (g.O.Operation.options_of c.args.operation) in
     unbegun words head makes (g.O.Operation.feedback_of c.args.operation).event c.in-Err.fault c.args.host.now c.begin_event.new.host c.end_unbegun.new.host
     c.end_unbegun.result c.in-Err.ensures c.end_unbegun.ensures.status c.end_unbegun.ensures.told
