@@ -408,8 +408,8 @@ impl<S: Source, L: Log, E: Explains<S> + Drop> Check<S, L, E> {
         Ok(bytes)
     }
 
-    // What of a folder can be listed. That not all of it can is told, whosever the folder is: what is
-    // missed there may be the share's own.
+    // What of a folder can be listed. That not all of it can is told, whosever the folder is: what
+    // is missed there may be the share's own.
     #[tactic(auto, using(pt_tree::proofs::Told::listed_in))]
     fn list(&mut self, path: &NamePath) -> Result<FolderListing, Fault>
         requires { ForSome (tree_by S.told self.old) (λ tree. IsSome (dir_at tree path.now)) }
@@ -434,8 +434,8 @@ impl<S: Source, L: Log, E: Explains<S> + Drop> Check<S, L, E> {
         }
     }
 
-    // Tells that the source failed to list a folder, by a line for each reason. Gives what of it can
-    // be listed all the same.
+    // Tells that the source failed to list a folder, by a line for each reason. Gives what of it
+    // can be listed all the same.
     #[tactic(auto, using(pt_tree::proofs::Told::listed_in))]
     fn list_part(&mut self, path: &NamePath) -> Result<FolderListing, Fault>
         requires { ForSome (tree_by S.told self.old) (λ tree. IsSome (dir_at tree path.now)) }

@@ -54,8 +54,8 @@ pub(crate) fn finding_of(form: Form, within: Within, listing: &Listing) -> Findi
     }
 }
 
-/// Whether the own folder of an object, in a site at a path that lists these entries and is found to
-/// be this, has another name than those of the site join to.
+/// Whether the own folder of an object, in a site at a path that lists these entries and is found
+/// to be this, has another name than those of the site join to.
 pub(crate) fn is_renamed(
     alloc: Global,
     path: &NamePath,

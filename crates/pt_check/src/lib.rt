@@ -30,7 +30,7 @@
 //! - It answers `Log` only where the log's count of failures rose, `Memory` only where it stayed,
 //!   and no other fault (`LogFailsAs`). Whatever it answers, the source tells the same tree as
 //!   before, and the log is the same one, in which stands what stood (`Keeps`).
-//! - Not told is, without reading whole, the length of a file.
+//! - A file's length is told only if it is read whole. `meeting` says what of a list is left unmet.
 //!
 //! No guarantee of README rests on its definitions.
 #![tactic(auto)]

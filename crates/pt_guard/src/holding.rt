@@ -61,8 +61,8 @@ pub trait FolderCalls {
         ensures { opens self.now path.now result };
 }
 
-/// A system whose folders can be locked, by its words, as one. Each `FolderCalls` is one, by the one
-/// impl below.
+/// A system whose folders can be locked, by its words, as one. Each `FolderCalls` is one, by the
+/// one impl below.
 pub trait LocksFolders: FolderCalls {
     /// Its words.
     ghost folder_words: { Self → FolderWords Self.Names Self.Opened };
@@ -82,9 +82,9 @@ where
     } };
 }
 
-/// Asks for the lock of the folder at a path, as a claim says, unless that is a storage root or an object itself,
-/// and says what that came to. What is no folder may be a pipe, whose opening would wait, and isn't
-/// opened.
+/// Asks for the lock of the folder at a path, as a claim says, unless that is a storage root or an
+/// object itself, and says what that came to. What is no folder may be a pipe, whose opening would
+/// wait, and isn't opened.
 pub fn hold_folder<S: FolderCalls>(
     system: &S,
     alloc: Global,
