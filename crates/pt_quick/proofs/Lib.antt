@@ -1,0 +1,3 @@
+pub mod TreesMeasured
+mod ToldMeasured
+mod FailsMeasured

@@ -1,0 +1,32 @@
+//! What an audit needs that compares names and lengths alone: a source that tells how long a file
+//! is without opening it, and a source seen by lengths.
+//!
+//! Read `Lengths` first, then `Measured`. So a store is seen by the lengths of its files:
+//!
+//! ```rust
+//! let folder = NamePath::of_text(alloc, b"pairtree_root")?;
+//! let mut seen = Measured::new(store, folder);
+//! // What is read of a file below `pairtree_root` is its length, as `1560`.
+//! seen.open(&path)?;
+//! ```
+//!
+//! What it promises:
+//!
+//! - `Lengths`: the length that is told is that of the file at the path, which isn't opened, and
+//!   no call changes what it tells.
+//! - `Measured`: it tells its source's tree with the digits of each file's length in the place of
+//!   its bytes, for each file below a folder, at any depth (`measured`), and with that meets
+//!   `Source`, all calls. No file below the folder is opened: while its digits are read, the source
+//!   isn't called, and its open file stays as it was.
+//! - Directories, names and kinds are as they are (`kind_at-measured`, `listing_at-measured`), and
+//!   so is each file elsewhere (`file_at-measured`). Of two files below the folder the texts are
+//!   equal just where the lengths are (`same_length`).
+//!
+//! No guarantee of README rests on its definitions yet.
+#![tactic(auto)]
+
+mod lengths;
+mod measured;
+
+pub use lengths::Lengths;
+pub use measured::Measured;
