@@ -1,3 +1,4 @@
 pub mod Lengths
 pub mod Measured
 pub mod MeasuredLaws
+pub mod MeasuredSource

@@ -3,10 +3,15 @@
 //! No file below that folder is opened. Its length is asked for when it is opened here, and while
 //! its digits are read nothing is asked; the source's own open file stays as it was.
 ghost use Rattle.std.proofs.Common.{◌∙◌, refl};
-ghost use Rattle.std.specs.Prelude.{◌≡◌, decimal};
-ghost use Rattle.pt_tree.specs.Source.{tree_in};
-ghost use Rattle.pt_quick.specs.Measured.{AtMostCalled, failing_measured, is_below, told_measured};
+ghost use Rattle.std.specs.Prelude.{◌≡◌, [], decimal, MatchResult, OnErr, OnOk, true};
+ghost use Rattle.std.specs.Option.{option_map};
+ghost use Rattle.pt_tree.specs.Failing.{OpensAs, ReadsAs};
+ghost use Rattle.pt_tree.specs.Failures.{IsCounted, IsOneMoreCall};
+ghost use Rattle.pt_tree.specs.Source.{CanOpen, CanRead, IsRead, after_next, after_open};
+ghost use Rattle.pt_quick.specs.Measured.{is_below};
 ghost use Rattle.pt_quick.specs.MeasuredLaws.{proper_told, same_paths};
+ghost use Rattle.pt_quick.specs.MeasuredSource.{KeepsFolder, StaysBy, called_by, failing_by};
+ghost use Rattle.pt_quick.specs.MeasuredSource.{told_by};
 ghost use Rattle.pt_quick.specs.declared.measured.Unread.TheVariants.{OfSource};
 
 use crate::Lengths;
@@ -62,30 +67,27 @@ impl<S: Lengths> Measured<S> {
 }
 
 impl<S: Lengths> Source for Measured<S> {
-    ghost told = { λ m. told_measured m.folder m.unread (S.Source.told m.source) };
+    ghost told = { told_by S.Source };
 
-    ghost failing = { λ m. failing_measured m.folder m.unread (tree_in (S.Source.told m.source))
-        (S.Source.failing m.source) (S.unmeasured m.source) };
+    ghost failing = { failing_by S.Source S.unmeasured };
 
     ghost failed = { λ m. S.Source.failed m.source };
 
-    ghost called = { λ m. AtMostCalled (S.Source.called m.source) };
+    ghost called = { called_by S.Source };
 
-    ghost keeps = { λ a b. (b.folder ≡ a.folder)
-        × (tree_in (S.Source.told b.source) ≡ tree_in (S.Source.told a.source))
-        × S.Source.keeps a.source b.source };
+    ghost keeps = { KeepsFolder S.Source };
 
-    ghost is_kept = { λ a. (refl, refl, S.Source.is_kept a.source) };
+    ghost is_kept = { λ a. record { folder = refl; tree = refl; source = S.Source.is_kept a.source } };
 
-    ghost keeps_on = { λ a b c p q. (
-      q.0 ∙ p.0,
-      q.1 ∙ p.1,
-      S.Source.keeps_on a.source b.source c.source p.2 q.2,
-    ) };
+    ghost keeps_on = { λ a b c p q. record {
+      folder = q.folder ∙ p.folder;
+      tree = q.tree ∙ p.tree;
+      source = S.Source.keeps_on a.source b.source c.source p.source q.source;
+    } };
 
-    ghost keeps_failing = { λ a b p. same_paths _ _ _ _ _ _ _ _ _ _ p.0 p.1
-        (S.Source.keeps_failing a.source b.source p.2)
-        (S.keeps_unmeasured a.source b.source p.2) };
+    ghost keeps_failing = { λ a b p. same_paths _ _ _ _ _ _ _ _ _ _ p.folder p.tree
+        (S.Source.keeps_failing a.source b.source p.source)
+        (S.keeps_unmeasured a.source b.source p.source) };
 
     ghost proper = { λ m state is. proper_told m.folder m.unread (S.Source.told m.source) state
         (S.Source.proper m.source) is };
@@ -102,7 +104,21 @@ impl<S: Lengths> Source for Measured<S> {
         self.source.kind(path)
     }
 
-    fn open(&mut self, path: &NamePath) -> Result<(), TreeFault> {
+    fn open(&mut self, path: &NamePath) -> Result<(), TreeFault>
+        requires { CanOpen (told_by S.Source self.old) path.now }
+        ensures opened { OnOk result (told_by S.Source self.new
+            ≡ option_map (after_open path.now) (told_by S.Source self.old)) }
+        ensures same { OnErr result (told_by S.Source self.new ≡ told_by S.Source self.old) }
+        ensures fails { OpensAs (failing_by S.Source S.unmeasured self.old)
+            (failing_by S.Source S.unmeasured self.new) path.now result }
+        ensures failures { IsCounted (S.Source.failed self.old.source)
+            (S.Source.failed self.new.source) result }
+        ensures calls { IsOneMoreCall (called_by S.Source self.old) (called_by S.Source self.new) }
+        ensures keeps { KeepsFolder S.Source self.old self.new }
+        // The source's own open file stays as it was.
+        ensures unopened { is_below self.old.folder path.now ≡ true
+            → S.Source.told self.new.source ≡ S.Source.told self.old.source }
+    {
         if is_below(&self.folder, path) {
             let count = self.source.length(path)?;
             self.unread = Unread::Digits(count);
@@ -113,7 +129,21 @@ impl<S: Lengths> Source for Measured<S> {
         Ok(())
     }
 
-    fn next(&mut self, block: &mut Block) -> Result<(), TreeFault> {
+    fn next(&mut self, block: &mut Block) -> Result<(), TreeFault>
+        requires { CanRead (told_by S.Source self.old) }
+        ensures block { MatchResult result
+            (λ _. IsRead (told_by S.Source self.old) block.new.items) (λ _. block.new.items ≡ []) }
+        ensures moved { OnOk result (told_by S.Source self.new
+            ≡ option_map after_next (told_by S.Source self.old)) }
+        ensures same { OnErr result (told_by S.Source self.new ≡ told_by S.Source self.old) }
+        ensures fails { ReadsAs (failing_by S.Source S.unmeasured self.old)
+            (failing_by S.Source S.unmeasured self.new) block.new.items result }
+        ensures failures { IsCounted (S.Source.failed self.old.source)
+            (S.Source.failed self.new.source) result }
+        ensures calls { IsOneMoreCall (called_by S.Source self.old) (called_by S.Source self.new) }
+        ensures keeps { KeepsFolder S.Source self.old self.new
+            × StaysBy self.old.unread self.old.source self.new.source }
+    {
         match self.unread {
             Unread::OfSource => self.source.next(block),
             Unread::Digits(count) => {
