@@ -2,3 +2,4 @@ pub mod Lengths
 pub mod Measured
 pub mod MeasuredLaws
 pub mod MeasuredSource
+pub mod SeenLaws

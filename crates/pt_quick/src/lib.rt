@@ -25,6 +25,7 @@
 //! No guarantee of README rests on its definitions yet.
 #![tactic(auto)]
 
+pub mod laws;
 mod lengths;
 mod measured;
 

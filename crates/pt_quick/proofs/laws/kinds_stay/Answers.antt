@@ -1,0 +1,5 @@
+use Rattle.pt_quick.proofs.TreesMeasured.{kind_at-measured}
+use Rattle.pt_quick.proofs.laws.kinds_stay.Goals as goal
+
+pub returns : goal.returns
+returns c = kind_at-measured

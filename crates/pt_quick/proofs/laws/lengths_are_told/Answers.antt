@@ -1,0 +1,5 @@
+use Rattle.pt_quick.proofs.TreesMeasured.{same_length}
+use Rattle.pt_quick.proofs.laws.lengths_are_told.Goals as goal
+
+pub returns : goal.returns
+returns c = same_length
