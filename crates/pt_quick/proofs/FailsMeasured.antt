@@ -10,7 +10,7 @@ use Rattle.pt_tree.specs.Source.{CanList, CanLook, CanOpen, Reading, after_next,
 use Rattle.pt_tree.specs.declared.faults.TreeFault.{TreeFault}
 use Rattle.pt_tree.specs.declared.faults.TreeFault.TheVariants.{Device, Memory}
 use Rattle.pt_quick.specs.declared.measured.Unread.{Unread}
-use Rattle.pt_quick.specs.declared.measured.Unread.TheVariants.{OfSource, Digits, Nothing}
+use Rattle.pt_quick.specs.declared.measured.Unread.TheVariants.{OfSource, Length, Nothing}
 use Rattle.pt_quick.specs.Lengths.{MeasuresAs}
 use Rattle.pt_quick.specs.Measured.{failing_measured, failing_seen, fails_by, is_below, is_measured, paths_measured}
 
@@ -138,16 +138,16 @@ unfolding CanOpen
 file_there None forest p may is = absurd (cc)
 file_there (Some s) forest p may is = let same : s.tree ≡ forest = cc in subst (λ (f : Forest). IsSome (file_at f p)) same (may s refl)
 
--- below the folder the length of a file is told, and its digits can be read
+-- below the folder the length of a file is told, and its text can be read
 pub opens_by_length : {T : Type 0} (folder : Path) (left : Unread) (told now : Option Reading) (x y : Option Failing) (u v : Option (Path → Bool)) (p : Path)
     (count : ℕ) (value : T) → is_below folder p ≡ true → CanOpen told p → now ≡ told → y ≡ x → v ≡ u → MeasuresAs u p (Ok count)
-    → OpensAs (failing_measured folder left (tree_in told) x u) (failing_measured folder (Digits count) (tree_in now) y v) p (Ok value)
+    → OpensAs (failing_measured folder left (tree_in told) x u) (failing_measured folder (Length count) (tree_in now) y v) p (Ok value)
 unfolding OpensAs MeasuresAs
 opens_by_length folder left told now x y u v p count value below may same kept still measures = λ f is.
     let t = told_by folder left (tree_in told) x u f is in
     let there = file_there told t.forest p may t.is_tree in
     let here : f.at p ≡ t.at p = ap (λ (f : Failing). f.at p) t.seen ∙ at_file folder t.forest t.fails.at t.at p below there in
-    again folder (Digits count) (tree_in now) y v t.forest t.fails t.at (ap tree_in same ∙ t.is_tree) (kept ∙ t.is_failing) (still ∙ t.is_at)
+    again folder (Length count) (tree_in now) y v t.forest t.fails t.at (ap tree_in same ∙ t.is_tree) (kept ∙ t.is_failing) (still ∙ t.is_at)
     ∙ (λ i. Some (record { at = (sym t.seen i).at; reading = sym (here ∙ measures t.at t.is_at) i }))
 
 -- or it isn't told
@@ -200,12 +200,12 @@ reads_as {T = T} folder left told now x y u v block result is_source same still 
     on_with (Err Device) a b same reads = same ∙ reads
     on_with (Err Memory) a b same reads = reads
 
--- digits never fail to be read
-pub reads_digits : {T : Type 0} (folder : Path) (left now : Unread) (tree : Option Forest) (x : Option Failing) (u : Option (Path → Bool)) (block : List ℕ)
+-- the text of a length never fails to be read
+pub reads_text : {T : Type 0} (folder : Path) (left now : Unread) (tree : Option Forest) (x : Option Failing) (u : Option (Path → Bool)) (block : List ℕ)
     (value : T) → ((b : Bool) → fails_by left b ≡ false) → ((b : Bool) → fails_by now b ≡ false)
     → ReadsAs (failing_measured folder left tree x u) (failing_measured folder now tree x u) block (Ok value)
 unfolding ReadsAs
-reads_digits folder left now tree x u block value none nor = λ f is.
+reads_text folder left now tree x u block value none nor = λ f is.
     let t = told_by folder left tree x u f is in
     let reading : f.reading ≡ false = ap (λ (f : Failing). f.reading) t.seen ∙ none t.fails.reading in (
       again folder now tree x u t.forest t.fails t.at t.is_tree t.is_failing t.is_at
@@ -213,9 +213,9 @@ reads_digits folder left now tree x u block value none nor = λ f is.
       λ short. reading,
     )
 
--- neither digits nor what is left of them
-pub digits_go : (left : Unread) (count : ℕ) (b : Bool) → left ≡ Digits count → fails_by left b ≡ false
-digits_go left count b is = ap (λ l. fails_by l b) is
+-- neither that nor what is left of it
+pub length_goes : (left : Unread) (count : ℕ) (b : Bool) → left ≡ Length count → fails_by left b ≡ false
+length_goes left count b is = ap (λ l. fails_by l b) is
 
 pub nothing_goes : (left : Unread) (b : Bool) → left ≡ Nothing → fails_by left b ≡ false
 nothing_goes left b is = ap (λ l. fails_by l b) is

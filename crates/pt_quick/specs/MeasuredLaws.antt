@@ -37,34 +37,34 @@ same_paths f g left now s t x y u v folder tree paths unmeasured =
 -- ---- names
 
 -- names stay
-before-lengths : (n : List ℕ) (f : Forest) → comes_before n (lengths_of f) ≡ comes_before n f
-before-lengths n none = refl
-before-lengths n (file k b f) = refl
-before-lengths n (other k f) = refl
-before-lengths n (dir k d f) = refl
+before-lengths : (longest : ℕ) (n : List ℕ) (f : Forest) → comes_before n (lengths_of longest f) ≡ comes_before n f
+before-lengths longest n none = refl
+before-lengths longest n (file k b f) = refl
+before-lengths longest n (other k f) = refl
+before-lengths longest n (dir k d f) = refl
 
 -- so they rise
-proper-lengths : (f : Forest) → is_proper f ≡ true → is_proper (lengths_of f) ≡ true
-proper-lengths none proper = refl
-proper-lengths (file k b f) proper =
+proper-lengths : (longest : ℕ) (f : Forest) → is_proper f ≡ true → is_proper (lengths_of longest f) ≡ true
+proper-lengths longest none proper = refl
+proper-lengths longest (file k b f) proper =
     let p = proper_file k b f proper in
-    and_from _ _ p.0 (and_from _ _ (before-lengths k f ∙ p.1) (proper-lengths f p.2))
-proper-lengths (other k f) proper =
+    and_from _ _ p.0 (and_from _ _ (before-lengths longest k f ∙ p.1) (proper-lengths longest f p.2))
+proper-lengths longest (other k f) proper =
     let p = proper_other k f proper in
-    and_from _ _ p.0 (and_from _ _ (before-lengths k f ∙ p.1) (proper-lengths f p.2))
-proper-lengths (dir k d f) proper =
+    and_from _ _ p.0 (and_from _ _ (before-lengths longest k f ∙ p.1) (proper-lengths longest f p.2))
+proper-lengths longest (dir k d f) proper =
     let p = proper_dir k d f proper in
-    and_from _ _ p.0 (and_from _ _ (before-lengths k f ∙ p.1) (and_from _ _ (proper-lengths d p.3) (proper-lengths f p.2)))
+    and_from _ _ p.0 (and_from _ _ (before-lengths longest k f ∙ p.1) (and_from _ _ (proper-lengths longest d p.3) (proper-lengths longest f p.2)))
 
 -- below a folder too
-pub proper-measured : (folder : Path) (f : Forest) → is_proper f ≡ true → is_proper (measured folder f) ≡ true
-proper-measured folder f proper = proper-changed lengths_of f folder (λ d is rises. proper-lengths d rises) proper
+pub proper-measured : (longest : ℕ) (folder : Path) (f : Forest) → is_proper f ≡ true → is_proper (measured longest folder f) ≡ true
+proper-measured longest folder f proper = proper-changed (lengths_of longest) f folder (λ d is rises. proper-lengths longest d rises) proper
 
 -- in what is told of a proper source the names rise
-pub proper_told : (folder : Path) (left : Unread) (told : Option Reading) (state : Reading)
+pub proper_told : (longest : ℕ) (folder : Path) (left : Unread) (told : Option Reading) (state : Reading)
     → ((s : Reading) → told ≡ Some s → is_proper s.tree ≡ true)
-    → told_measured folder left told ≡ Some state → is_proper state.tree ≡ true
-proper_told folder left None state law is = absurd (cc)
-proper_told folder left (Some s) state law is =
-    let same : reading_measured folder left s ≡ state = cc in
-    subst (λ (r : Reading). is_proper r.tree ≡ true) same (proper-measured folder s.tree (law s refl))
+    → told_measured longest folder left told ≡ Some state → is_proper state.tree ≡ true
+proper_told longest folder left None state law is = absurd (cc)
+proper_told longest folder left (Some s) state law is =
+    let same : reading_measured longest folder left s ≡ state = cc in
+    subst (λ (r : Reading). is_proper r.tree ≡ true) same (proper-measured longest folder s.tree (law s refl))

@@ -1,0 +1,5 @@
+use Rattle.pt_quick.proofs.TreesMeasured.{text_of_carried}
+use Rattle.pt_quick.proofs.laws.long_files_are_marked.Goals as goal
+
+pub returns : goal.returns
+returns c = text_of_carried
