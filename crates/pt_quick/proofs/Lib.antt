@@ -1,3 +1,4 @@
 pub mod TreesMeasured
 mod ToldMeasured
 mod FailsMeasured
+pub mod SitesMeasured

@@ -47,7 +47,7 @@ node_at-lengths longest (Dir d) (n ∷ p) = ap (option_and_then (λ node. node_a
     by (Some x) later = later x
 
 -- the names and kinds are the same
-listing-lengths : (longest : ℕ) (f : Forest) → listing_of (lengths_of longest f) ≡ listing_of f
+pub listing-lengths : (longest : ℕ) (f : Forest) → listing_of (lengths_of longest f) ≡ listing_of f
 listing-lengths longest none = refl
 listing-lengths longest (file k b f) = ap (λ (items : List Item). (k, kind.File) ∷ items) (listing-lengths longest f)
 listing-lengths longest (other k f) = ap (λ (items : List Item). (k, kind.Other) ∷ items) (listing-lengths longest f)
@@ -80,7 +80,7 @@ step_past longest k m n folder y f g same later = by (bytes_eq k n) (bytes_eq m 
     by true false later = refl
     by false mn later = later
 
-find-measured : (longest : ℕ) (m : List ℕ) (folder : Path) (f : Forest) (n : List ℕ)
+pub find-measured : (longest : ℕ) (m : List ℕ) (folder : Path) (f : Forest) (n : List ℕ)
     → find (measured longest (m ∷ folder) f) n ≡ cond (bytes_eq m n) (option_map (node_measured longest folder) (find f n)) (find f n)
 find-measured longest m folder none n = sym (cond_same (bytes_eq m n) None)
 find-measured longest m folder (file k b f) n = step_past longest k m n folder (File b) f (measured longest (m ∷ folder) f) refl (find-measured longest m folder f n)
@@ -110,7 +110,7 @@ find-measured longest m folder (dir k d f) n = by (bytes_eq k m) refl (find-meas
         at false mn not_both later = later
 
 -- what stands at a path is what stood there, seen so
-node_at-measured : (longest : ℕ) (folder : Path) (x : Node) (p : Path) → node_at (node_measured longest folder x) p ≡ option_map (node_seen longest folder p) (node_at x p)
+pub node_at-measured : (longest : ℕ) (folder : Path) (x : Node) (p : Path) → node_at (node_measured longest folder x) p ≡ option_map (node_seen longest folder p) (node_at x p)
 node_at-measured longest folder x [] = refl
 node_at-measured longest [] (File b) (n ∷ p) = refl
 node_at-measured longest [] Other (n ∷ p) = refl

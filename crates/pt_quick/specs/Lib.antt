@@ -3,3 +3,4 @@ pub mod Measured
 pub mod MeasuredLaws
 pub mod MeasuredSource
 pub mod SeenLaws
+pub mod SitesMeasured

@@ -1,6 +1,8 @@
-//! Laws on a tree that is seen by lengths. Each is the contract of a function that does nothing.
+//! Laws on a tree that is seen by lengths, and on a walk through it. Each is the contract of a function that does nothing.
 ghost use Rattle.pt_quick.specs.SeenLaws.{FilesAreMeasured, KindsStay, LengthsAreTold};
 ghost use Rattle.pt_quick.specs.SeenLaws.{ListingsStay, LongFilesAreMarked};
+ghost use Rattle.pt_quick.specs.SitesMeasured.{ItemsAreSeen, OutcomesAreSeen, SitesAreSeen};
+ghost use Rattle.pt_quick.specs.SitesMeasured.{StoreStays};
 
 /// A file below the folder has the text of its length, and one elsewhere its own bytes.
 pub fn files_are_measured()
@@ -25,4 +27,26 @@ pub fn lengths_are_told()
 /// The text of a length has more than twenty bytes just where the length is over the greatest.
 pub fn long_files_are_marked()
     ensures { LongFilesAreMarked }
+{}
+
+/// What stands at the top of a store and is read there, its prefix too, is the same where the files
+/// in its pairtree are seen by lengths.
+pub fn store_stays()
+    ensures { StoreStays }
+{}
+
+/// A walk through it comes to the same directories, and meets each in the same way.
+pub fn sites_are_seen()
+    ensures { SitesAreSeen }
+{}
+
+/// Each has the same identifier, or the same cause why it has none.
+pub fn items_are_seen()
+    ensures { ItemsAreSeen }
+{}
+
+/// And the same comes of each object whose files are shorter than 2^64 bytes, with the same cause,
+/// where the walk carries files of at most `LONGEST_TEXT` bytes.
+pub fn outcomes_are_seen()
+    ensures { OutcomesAreSeen }
 {}
