@@ -3,13 +3,16 @@ use Rattle.std.proofs.Common.{◌++◌, ◌≡◌, ◌<◌, ◌≤◌, ◌^◌, 
 use Rattle.std.specs.Prelude.{Bool, cond, decimal, Option, None, Some, is_some, nat_lt}
 use Rattle.std.specs.Option.{option_and_then, option_map}
 use Rattle.std.specs.Str.{bytes_eq}
+use Rattle.std.proofs.lemmas.Bool.{cond-true}
 use Rattle.std.proofs.lemmas.Fmt.{decimal_injective, decimal_nonempty, length-decimal-le}
 use Rattle.std.proofs.lemmas.List.{append_cancel_right, length-append}
 use Rattle.pt_tree.specs.Forest.{Forest, none, file, other, dir, Node, File, Dir, Other, as_dir, as_file, dir_at, file_at, find, kind_at, kind_of, listing_at, listing_of, node_at}
 use Rattle.pt_tree.specs.declared.kind.Kind.TheVariants as kind
 use Rattle.pt_tree.specs.Listing.{Item}
 use Rattle.pt_tree.specs.Path.{Path, rest_below}
-use Rattle.pt_tree.proofs.Names.{same_name, differ, cond_same}
+use Rattle.pt_tree.specs.Tree.{Entry, entry_of, tree_of}
+use Rattle.pt_tree.proofs.Names.{name_itself, same_name, differ, cond_same}
+use Rattle.pt_quick.specs.SeenLaws.{entry_measured, tree_measured}
 use Rattle.pt_quick.specs.Measured.{is_below, lengths_of, mark_by, measured, text_of_file, text_of_length}
 
 -- ---- in every directory
@@ -239,6 +242,58 @@ is_dir-measured longest folder f p =
     by : (d : Option Forest) → is_some d ≡ is_some (option_map listing_of d)
     by None = refl
     by (Some e) = refl
+
+-- ---- path by path
+
+entry_of_seen : (longest : ℕ) (folder p : Path) (x : Node) → entry_of (node_seen longest folder p x)
+    ≡ cond (is_below folder p) (entry_measured longest (entry_of x)) (entry_of x)
+entry_of_seen longest [] [] (File b) = refl
+entry_of_seen longest [] [] (Dir d) = refl
+entry_of_seen longest [] [] Other = refl
+entry_of_seen longest (m ∷ folder) [] (File b) = refl
+entry_of_seen longest (m ∷ folder) [] (Dir d) = refl
+entry_of_seen longest (m ∷ folder) [] Other = refl
+entry_of_seen longest [] (n ∷ p) (File b) = refl
+entry_of_seen longest [] (n ∷ p) (Dir d) = refl
+entry_of_seen longest [] (n ∷ p) Other = refl
+entry_of_seen longest (m ∷ folder) (n ∷ p) x = by (bytes_eq m n) (entry_of_seen longest folder p x)
+  where
+    by : (t : Bool) → entry_of (node_seen longest folder p x) ≡ cond (is_below folder p) (entry_measured longest (entry_of x)) (entry_of x)
+        → entry_of (cond t (node_seen longest folder p x) x) ≡ cond (cond t (is_below folder p) false) (entry_measured longest (entry_of x)) (entry_of x)
+    by true later = later
+    by false later = refl
+
+-- of files below the folder the texts of their lengths stand, and all else as it is
+pub tree-measured : (longest : ℕ) (folder : Path) (f : Forest) → tree_of (measured longest folder f) ≡ tree_measured longest folder (tree_of f)
+tree-measured longest folder f = λ i p. at p i
+  where
+    none_left : (t : Bool) → None ≡ cond t (option_map (entry_measured longest) None) None
+    none_left true = refl
+    none_left false = refl
+
+    some_left : (t : Bool) (e : Entry) → Some (cond t (entry_measured longest e) e) ≡ cond t (option_map (entry_measured longest) (Some e)) (Some e)
+    some_left true e = refl
+    some_left false e = refl
+
+    by : (p : Path) (found : Option Node) → option_map entry_of (option_map (node_seen longest folder p) found)
+        ≡ cond (is_below folder p) (option_map (entry_measured longest) (option_map entry_of found)) (option_map entry_of found)
+    by p None = none_left (is_below folder p)
+    by p (Some x) = ap (λ (e : Entry). Some e) (entry_of_seen longest folder p x) ∙ some_left (is_below folder p) (entry_of x)
+
+    at : (p : Path) → tree_of (measured longest folder f) p ≡ tree_measured longest folder (tree_of f) p
+    at p = ap (option_map entry_of) (node_at-measured longest folder (Dir f) p) ∙ by p (node_at (Dir f) p)
+
+-- behind the same path
+pub below_behind : (at folder p : Path) → is_below (at ++ folder) (at ++ p) ≡ is_below folder p
+below_behind [] folder p = refl
+below_behind (n ∷ at) folder p =
+    ap (λ t. cond t (is_below (at ++ folder) (at ++ p)) false) (name_itself n) ∙ below_behind at folder p
+
+-- the bytes of a file that stands below the folder
+pub bytes_at-measured : (longest : ℕ) (folder : Path) (f : Forest) (p : Path) (bytes : List ℕ) → is_below folder p ≡ true → file_at f p ≡ Some bytes
+    → file_at (measured longest folder f) p ≡ Some (text_of_file longest bytes)
+bytes_at-measured longest folder f p bytes below is =
+    file_at-measured longest folder f p ∙ cond-true (is_below folder p) _ _ below ∙ ap (option_map (text_of_file longest)) is
 
 -- ---- lengths
 

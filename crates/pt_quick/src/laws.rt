@@ -1,4 +1,5 @@
 //! Laws on a tree that is seen by lengths, and on a walk through it. Each is the contract of a function that does nothing.
+ghost use Rattle.pt_quick.specs.SeenLaws.{BelowAPath, TreesAreMeasured};
 ghost use Rattle.pt_quick.specs.SeenLaws.{FilesAreMeasured, KindsStay, LengthsAreTold};
 ghost use Rattle.pt_quick.specs.SeenLaws.{ListingsStay, LongFilesAreMarked};
 ghost use Rattle.pt_quick.specs.SitesMeasured.{ItemsAreSeen, OutcomesAreSeen, SitesAreSeen};
@@ -7,6 +8,16 @@ ghost use Rattle.pt_quick.specs.SitesMeasured.{StoreStays};
 /// A file below the folder has the text of its length, and one elsewhere its own bytes.
 pub fn files_are_measured()
     ensures { FilesAreMeasured }
+{}
+
+/// Path by path: of files below the folder the texts of their lengths stand, and all else as it is.
+pub fn trees_are_measured()
+    ensures { TreesAreMeasured }
+{}
+
+/// A path is below a folder just where it is so behind another path.
+pub fn below_a_path()
+    ensures { BelowAPath }
 {}
 
 /// What stands at a path, if anything does, is of the same kind.
