@@ -1,4 +1,4 @@
 pub mod TreesMeasured
-mod ToldMeasured
+pub mod ToldMeasured
 mod FailsMeasured
 pub mod SitesMeasured

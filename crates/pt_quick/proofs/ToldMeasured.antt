@@ -63,6 +63,14 @@ unfolding CanOpen
 can_open longest folder left told p may = λ s is.
     sym (is_file-measured longest folder s.tree p) ∙ may (reading_measured longest folder left s) (ap (told_measured longest folder left) is)
 
+-- and may here where it may be there
+pub can_open_seen : (longest : ℕ) (folder : Path) (left : Unread) (told : Option Reading) (p : Path) → CanOpen told p
+    → CanOpen (told_measured longest folder left told) p
+unfolding CanOpen
+can_open_seen longest folder left None p may = λ r is. absurd (cc)
+can_open_seen longest folder left (Some s) p may = λ r is.
+    subst (λ (r : Reading). is_some (file_at r.tree p) ≡ true) (told_as longest folder left s r is) (is_file-measured longest folder s.tree p ∙ may s refl)
+
 -- elsewhere the source's file is opened
 pub is_opened : (longest : ℕ) (folder : Path) (left : Unread) (told : Option Reading) (p : Path) → is_below folder p ≡ false
     → told_measured longest folder OfSource (option_map (after_open p) told) ≡ option_map (after_open p) (told_measured longest folder left told)
