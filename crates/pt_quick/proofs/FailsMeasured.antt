@@ -15,7 +15,8 @@ use Rattle.pt_quick.specs.Lengths.{MeasuresAs}
 use Rattle.pt_quick.specs.Measured.{failing_measured, failing_seen, fails_by, is_below, is_measured, paths_measured}
 
 -- all that it takes to tell where it fails
-pub record Told (folder : Path) (left : Unread) (tree : Option Forest) (failing : Option Failing) (unmeasured : Option (Path → Bool)) (f : Failing) : Type 0 where
+pub record Told (folder : Path) (left : Unread) (tree : Option Forest) (failing : Option Failing) (unmeasured : Option (Path → Bool))
+    (f : Failing) : Type 0 where
   pub forest : Forest
   pub is_tree : tree ≡ Some forest
   pub fails : Failing
@@ -76,7 +77,8 @@ lists_as folder left (Some s) now x y u v p result same still may lists = λ f i
     let t = told_by folder left (Some s.tree) x u f is in
     let dir : IsSome (dir_at t.forest p) = subst (λ (f : Forest). IsSome (dir_at f p)) (cc) (may s refl) in
     let goes = lists t.fails t.is_failing in (
-      again folder left (tree_in now) y v t.forest t.fails t.at (ap tree_in same ∙ t.is_tree) goes.0 (still ∙ t.is_at) ∙ ap (λ (f : Failing). Some f) (sym t.seen),
+      again folder left (tree_in now) y v t.forest t.fails t.at (ap tree_in same ∙ t.is_tree) goes.0 (still ∙ t.is_at)
+          ∙ ap (λ (f : Failing). Some f) (sym t.seen),
       subst (λ b. GoesAs b result) (sym (ap (λ (f : Failing). f.at p) t.seen ∙ at_dir folder t.forest t.fails.at t.at p dir)) goes.1,
     )
 
@@ -89,7 +91,8 @@ looks_as folder left (Some s) now x y u v p result same still may looks = λ f i
     let t = told_by folder left (Some s.tree) x u f is in
     let dir : IsSome (dir_at t.forest (parent p)) = may t.forest t.is_tree in
     let goes = looks t.fails t.is_failing in (
-      again folder left (tree_in now) y v t.forest t.fails t.at (ap tree_in same ∙ t.is_tree) goes.0 (still ∙ t.is_at) ∙ ap (λ (f : Failing). Some f) (sym t.seen),
+      again folder left (tree_in now) y v t.forest t.fails t.at (ap tree_in same ∙ t.is_tree) goes.0 (still ∙ t.is_at)
+          ∙ ap (λ (f : Failing). Some f) (sym t.seen),
       subst (λ b. LooksWith b result) (sym (ap (λ (f : Failing). f.at (parent p)) t.seen ∙ at_dir folder t.forest t.fails.at t.at (parent p) dir)) goes.1,
     )
 
@@ -101,7 +104,8 @@ tree_opened None p = refl
 tree_opened (Some s) p = refl
 
 -- elsewhere the source's file is open
-pub opens_as : {T : Type 0} (folder : Path) (left : Unread) (told now : Option Reading) (x y : Option Failing) (u v : Option (Path → Bool)) (p : Path) (value : T)
+pub opens_as : {T : Type 0} (folder : Path) (left : Unread) (told now : Option Reading) (x y : Option Failing) (u v : Option (Path → Bool)) (p : Path)
+    (value : T)
     → is_below folder p ≡ false → now ≡ option_map (after_open p) told → v ≡ u → OpensAs x y p (Ok value)
     → OpensAs (failing_measured folder left (tree_in told) x u) (failing_measured folder OfSource (tree_in now) y v) p (Ok value)
 unfolding OpensAs

@@ -44,7 +44,8 @@ store_stays = record {
 
 -- the folder itself holds the lengths of its files
 folder_seen : (longest : ℕ) (r : List ℕ) (f : Forest) → dir_at (measured longest (r ∷ []) f) (r ∷ []) ≡ option_map (lengths_of longest) (dir_at f (r ∷ []))
-folder_seen longest r f = ap (option_and_then as_dir) (node_at-measured longest (r ∷ []) (Dir f) (r ∷ [])) ∙ by (bytes_eq r r) (name_itself r) (node_at (Dir f) (r ∷ []))
+folder_seen longest r f = ap (option_and_then as_dir) (node_at-measured longest (r ∷ []) (Dir f) (r ∷ []))
+    ∙ by (bytes_eq r r) (name_itself r) (node_at (Dir f) (r ∷ []))
   where
     by : (t : Bool) → t ≡ true → (o : Option Node) → option_and_then as_dir (option_map (λ x. cond t (node_measured longest [] x) x) o)
         ≡ option_map (lengths_of longest) (option_and_then as_dir o)
@@ -84,13 +85,18 @@ sites_below longest reach path (dir name inside after) =
     (sites_in reach (path ++ name ∷ []) (lengths_of longest inside))) [] ++ sites_below longest reach path after i)
     ∙ by (is_short name) (visit_of reach path name inside) (sites_below longest reach (path ++ name ∷ []) inside)
   where
-    by : (t : Bool) (visit : Visit) → sites_in reach (path ++ name ∷ []) (lengths_of longest inside) ≡ map (site_seen longest) (sites_in reach (path ++ name ∷ []) inside)
-        → cond t ((path ++ name ∷ [], visit_seen longest visit) ∷ walked (visit_seen longest visit) (sites_in reach (path ++ name ∷ []) (lengths_of longest inside))) []
+    by : (t : Bool) (visit : Visit)
+        → sites_in reach (path ++ name ∷ []) (lengths_of longest inside) ≡ map (site_seen longest) (sites_in reach (path ++ name ∷ []) inside)
+        → cond t ((path ++ name ∷ [], visit_seen longest visit) ∷ walked (visit_seen longest visit)
+        (sites_in reach (path ++ name ∷ []) (lengths_of longest inside))) []
         ++ map (site_seen longest) (sites_in reach path after)
-        ≡ map (site_seen longest) (cond t ((path ++ name ∷ [], visit) ∷ walked visit (sites_in reach (path ++ name ∷ []) inside)) [] ++ sites_in reach path after)
+        ≡ map (site_seen longest)
+        (cond t ((path ++ name ∷ [], visit) ∷ walked visit (sites_in reach (path ++ name ∷ []) inside)) [] ++ sites_in reach path after)
     by true visit later =
-        ap (λ (xs : List Site). ((path ++ name ∷ [], visit_seen longest visit) ∷ xs) ++ map (site_seen longest) (sites_in reach path after)) (walked_by longest visit _ _ later)
-        ∙ sym (map-append (site_seen longest) ((path ++ name ∷ [], visit) ∷ walked visit (sites_in reach (path ++ name ∷ []) inside)) (sites_in reach path after))
+        ap (λ (xs : List Site). ((path ++ name ∷ [], visit_seen longest visit) ∷ xs) ++ map (site_seen longest) (sites_in reach path after))
+        (walked_by longest visit _ _ later)
+        ∙ sym (map-append (site_seen longest) ((path ++ name ∷ [], visit) ∷ walked visit (sites_in reach (path ++ name ∷ []) inside))
+        (sites_in reach path after))
     by false visit later = refl
 
 pub sites_seen : (longest : ℕ) (reach : Reach) (store : Forest) → sites_of reach (store_seen longest store) ≡ map (site_seen longest) (sites_of reach store)
@@ -219,7 +225,8 @@ bad_seen : (limits : Bounds) (depth held : ℕ) (es : List Entry) → AreShort (
     → cause_in (first_bad (limits_seen limits) depth held (map (entry_seen limits.file_bytes) es)) ≡ cause_in (first_bad limits depth held es)
 bad_seen limits depth held [] short = refl
 bad_seen limits depth held ((path, File bytes) ∷ others) short =
-    let over = text_of_carried limits.file_bytes (length bytes) (All-head (λ (file : CarriedFile). length file.1 < 2 ^ 64) (path, bytes) (files others) short) in
+    let over = text_of_carried limits.file_bytes (length bytes)
+    (All-head (λ (file : CarriedFile). length file.1 < 2 ^ 64) (path, bytes) (files others) short) in
     ap (λ t. cause_in (bad_or (cond (nat_le limits.files held || nat_lt limits.path_bytes (length (joined path)) || t) (Some cause.Limit) None)
     (path, File (text_of_file limits.file_bytes bytes)) (first_bad (limits_seen limits) depth (held + 1) (map (entry_seen limits.file_bytes) others)))) over
     ∙ bad_by (entry_cause limits depth held (path, File bytes)) _ _ _ _

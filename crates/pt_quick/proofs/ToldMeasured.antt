@@ -19,10 +19,12 @@ use Rattle.pt_quick.specs.Measured.{is_below, measured, reading_measured, text_o
 use Rattle.pt_quick.proofs.TreesMeasured.{file_at-measured, is_dir-measured, is_file-measured, kind_at-measured, listing_at-measured, short_text}
 
 -- what is told where the source tells
-told_as : (longest : ℕ) (folder : Path) (left : Unread) (s r : Reading) → told_measured longest folder left (Some s) ≡ Some r → reading_measured longest folder left s ≡ r
+told_as : (longest : ℕ) (folder : Path) (left : Unread) (s r : Reading) → told_measured longest folder left (Some s) ≡ Some r
+    → reading_measured longest folder left s ≡ r
 told_as longest folder left s r is = cc
 
-pub can_list : (longest : ℕ) (folder : Path) (left : Unread) (told : Option Reading) (p : Path) → CanList (told_measured longest folder left told) p → CanList told p
+pub can_list : (longest : ℕ) (folder : Path) (left : Unread) (told : Option Reading) (p : Path) → CanList (told_measured longest folder left told) p
+    → CanList told p
 unfolding CanList
 can_list longest folder left told p may = λ s is.
     sym (is_dir-measured longest folder s.tree p) ∙ may (reading_measured longest folder left s) (ap (told_measured longest folder left) is)
@@ -39,12 +41,14 @@ pub listed_by : (longest : ℕ) (folder : Path) (left : Unread) (told : Option R
     → IfOk result (λ items. IsListed told p items) → IfOk result (λ items. IsListed (told_measured longest folder left told) p items)
 listed_by longest folder left told p result listed = IfOk-weaker result _ _ (is_listed longest folder left told p) listed
 
-pub can_look : (longest : ℕ) (folder : Path) (left : Unread) (told : Option Reading) (p : Path) → CanLook (tree_in (told_measured longest folder left told)) p → CanLook (tree_in told) p
+pub can_look : (longest : ℕ) (folder : Path) (left : Unread) (told : Option Reading) (p : Path) → CanLook (tree_in (told_measured longest folder left told)) p
+    → CanLook (tree_in told) p
 unfolding CanLook
 can_look longest folder left None p may = λ f is. absurd (cc)
 can_look longest folder left (Some s) p may = λ f is.
     let same : s.tree ≡ f = cc in
-    ap (λ (f : Forest). is_some (dir_at f (parent p))) (sym same) ∙ sym (is_dir-measured longest folder s.tree (parent p)) ∙ may (measured longest folder s.tree) refl
+    ap (λ (f : Forest). is_some (dir_at f (parent p))) (sym same) ∙ sym (is_dir-measured longest folder s.tree (parent p))
+    ∙ may (measured longest folder s.tree) refl
 
 is_seen : (longest : ℕ) (folder : Path) (left : Unread) (told : Option Reading) (p : Path) (here : Option Kind) → IsSeen (tree_in told) p here
     → IsSeen (tree_in (told_measured longest folder left told)) p here
@@ -58,7 +62,8 @@ pub seen_by : (longest : ℕ) (folder : Path) (left : Unread) (told : Option Rea
     → IfOk result (λ here. IsSeen (tree_in told) p here) → IfOk result (λ here. IsSeen (tree_in (told_measured longest folder left told)) p here)
 seen_by longest folder left told p result seen = IfOk-weaker result _ _ (is_seen longest folder left told p) seen
 
-pub can_open : (longest : ℕ) (folder : Path) (left : Unread) (told : Option Reading) (p : Path) → CanOpen (told_measured longest folder left told) p → CanOpen told p
+pub can_open : (longest : ℕ) (folder : Path) (left : Unread) (told : Option Reading) (p : Path) → CanOpen (told_measured longest folder left told) p
+    → CanOpen told p
 unfolding CanOpen
 can_open longest folder left told p may = λ s is.
     sym (is_file-measured longest folder s.tree p) ∙ may (reading_measured longest folder left s) (ap (told_measured longest folder left) is)
@@ -80,7 +85,8 @@ is_opened longest folder left (Some s) p apart =
     (sym (file_at-measured longest folder s.tree p ∙ cond-false (is_below folder p) _ _ apart))
 
 -- below the folder its length is to be read
-pub has_length : (longest : ℕ) (folder : Path) (left : Unread) (told : Option Reading) (p : Path) (count : ℕ) → is_below folder p ≡ true → IsOfLength told p count
+pub has_length : (longest : ℕ) (folder : Path) (left : Unread) (told : Option Reading) (p : Path) (count : ℕ) → is_below folder p ≡ true
+    → IsOfLength told p count
     → told_measured longest folder (Length count) told ≡ option_map (after_open p) (told_measured longest folder left told)
 unfolding IsOfLength
 has_length longest folder left None p count below told = refl
@@ -93,7 +99,8 @@ has_length longest folder left (Some s) p count below told =
     by (Some b) is = let same : length b ≡ count = cc in ap (λ n. Some (text_of_length longest n)) same
 
 -- the source's file is read on
-pub can_read : (longest : ℕ) (folder : Path) (left : Unread) (told : Option Reading) → left ≡ OfSource → CanRead (told_measured longest folder left told) → CanRead told
+pub can_read : (longest : ℕ) (folder : Path) (left : Unread) (told : Option Reading) → left ≡ OfSource → CanRead (told_measured longest folder left told)
+    → CanRead told
 unfolding CanRead
 can_read longest folder OfSource told is may = λ s here. may (reading_measured longest folder OfSource s) (ap (told_measured longest folder OfSource) here)
 can_read longest folder (Length count) told is may = absurd (cc)
@@ -105,18 +112,22 @@ is_read longest folder None block read = λ r is. absurd (cc)
 is_read longest folder (Some s) block read = λ r is.
     subst (λ (r : Reading). option_map (take 8192) r.unread ≡ Some block) (told_as longest folder OfSource s r is) (read s refl)
 
-pub block_read : (longest : ℕ) {E : Type 0} (folder : Path) (left : Unread) (told : Option Reading) (block : List ℕ) (result : Result (Unit {0}) E) → left ≡ OfSource
-    → MatchResult result (λ _. IsRead told block) (λ _. block ≡ []) → MatchResult result (λ _. IsRead (told_measured longest folder left told) block) (λ _. block ≡ [])
+pub block_read : (longest : ℕ) {E : Type 0} (folder : Path) (left : Unread) (told : Option Reading) (block : List ℕ) (result : Result (Unit {0}) E)
+    → left ≡ OfSource
+    → MatchResult result (λ _. IsRead told block) (λ _. block ≡ [])
+    → MatchResult result (λ _. IsRead (told_measured longest folder left told) block) (λ _. block ≡ [])
 block_read longest folder OfSource told block (Ok x) is read = is_read longest folder told block read
 block_read longest folder OfSource told block (Err fault) is none = none
 block_read longest folder (Length count) told block result is read = absurd (cc)
 block_read longest folder Nothing told block result is read = absurd (cc)
 
 pub is_moved : (longest : ℕ) {E : Type 0} (folder : Path) (left : Unread) (told now : Option Reading) (result : Result (Unit {0}) E) → left ≡ OfSource
-    → OnOk result (now ≡ option_map after_next told) → OnOk result (told_measured longest folder left now ≡ option_map after_next (told_measured longest folder left told))
+    → OnOk result (now ≡ option_map after_next told)
+    → OnOk result (told_measured longest folder left now ≡ option_map after_next (told_measured longest folder left told))
 is_moved longest folder OfSource told now result is moved = on_ok_weaker result (λ e. ap (told_measured longest folder OfSource) e ∙ by told) moved
   where
-    by : (told : Option Reading) → told_measured longest folder OfSource (option_map after_next told) ≡ option_map after_next (told_measured longest folder OfSource told)
+    by : (told : Option Reading)
+        → told_measured longest folder OfSource (option_map after_next told) ≡ option_map after_next (told_measured longest folder OfSource told)
     by None = refl
     by (Some s) = refl
 is_moved longest folder (Length count) told now result is moved = absurd (cc)
@@ -132,7 +143,8 @@ pub text_read : (longest : ℕ) (folder : Path) (left : Unread) (told : Option R
 unfolding IsRead
 text_read longest folder left None count block is fits same = λ r here. absurd (cc)
 text_read longest folder left (Some s) count block is fits same = λ r here.
-    let text : r.unread ≡ Some (text_of_length longest count) = ap (λ (r : Reading). r.unread) (sym (told_as longest folder left s r here)) ∙ ap (λ l. unread_by longest l s.unread) is in
+    let text : r.unread ≡ Some (text_of_length longest count) = ap (λ (r : Reading). r.unread) (sym (told_as longest folder left s r here))
+    ∙ ap (λ l. unread_by longest l s.unread) is in
     ap (option_map (take 8192)) text ∙ ap (λ (bs : List ℕ). Some bs) (take_all 8192 (text_of_length longest count) (within longest count fits) ∙ sym same)
 
 pub text_gone : (longest : ℕ) (folder : Path) (left : Unread) (told : Option Reading) (count : ℕ) → left ≡ Length count → count < 2 ^ 64

@@ -6,7 +6,8 @@ use Rattle.std.specs.Str.{bytes_eq}
 use Rattle.std.proofs.lemmas.Bool.{cond-true}
 use Rattle.std.proofs.lemmas.Fmt.{decimal_injective, decimal_nonempty, length-decimal-le}
 use Rattle.std.proofs.lemmas.List.{append_cancel_right, length-append}
-use Rattle.pt_tree.specs.Forest.{Forest, none, file, other, dir, Node, File, Dir, Other, as_dir, as_file, dir_at, file_at, find, kind_at, kind_of, listing_at, listing_of, node_at}
+use Rattle.pt_tree.specs.Forest.{Forest, none, file, other, dir, Node, File, Dir, Other}
+use Rattle.pt_tree.specs.Forest.{as_dir, as_file, dir_at, file_at, find, kind_at, kind_of, listing_at, listing_of, node_at}
 use Rattle.pt_tree.specs.declared.kind.Kind.TheVariants as kind
 use Rattle.pt_tree.specs.Listing.{Item}
 use Rattle.pt_tree.specs.Path.{Path, rest_below}
@@ -42,10 +43,12 @@ node_at-lengths : (longest : ℕ) (x : Node) (p : Path) → node_at (node_length
 node_at-lengths longest x [] = refl
 node_at-lengths longest (File b) (n ∷ p) = refl
 node_at-lengths longest Other (n ∷ p) = refl
-node_at-lengths longest (Dir d) (n ∷ p) = ap (option_and_then (λ node. node_at node p)) (find-lengths longest d n) ∙ by (find d n) (λ x. node_at-lengths longest x p)
+node_at-lengths longest (Dir d) (n ∷ p) = ap (option_and_then (λ node. node_at node p)) (find-lengths longest d n)
+    ∙ by (find d n) (λ x. node_at-lengths longest x p)
   where
     by : (found : Option Node) → ((x : Node) → node_at (node_lengths longest x) p ≡ option_map (node_lengths longest) (node_at x p))
-        → option_and_then (λ node. node_at node p) (option_map (node_lengths longest) found) ≡ option_map (node_lengths longest) (option_and_then (λ node. node_at node p) found)
+        → option_and_then (λ node. node_at node p) (option_map (node_lengths longest) found)
+        ≡ option_map (node_lengths longest) (option_and_then (λ node. node_at node p) found)
     by None later = refl
     by (Some x) later = later x
 
@@ -86,14 +89,17 @@ step_past longest k m n folder y f g same later = by (bytes_eq k n) (bytes_eq m 
 pub find-measured : (longest : ℕ) (m : List ℕ) (folder : Path) (f : Forest) (n : List ℕ)
     → find (measured longest (m ∷ folder) f) n ≡ cond (bytes_eq m n) (option_map (node_measured longest folder) (find f n)) (find f n)
 find-measured longest m folder none n = sym (cond_same (bytes_eq m n) None)
-find-measured longest m folder (file k b f) n = step_past longest k m n folder (File b) f (measured longest (m ∷ folder) f) refl (find-measured longest m folder f n)
-find-measured longest m folder (other k f) n = step_past longest k m n folder Other f (measured longest (m ∷ folder) f) refl (find-measured longest m folder f n)
+find-measured longest m folder (file k b f) n = step_past longest k m n folder (File b) f (measured longest (m ∷ folder) f) refl
+    (find-measured longest m folder f n)
+find-measured longest m folder (other k f) n = step_past longest k m n folder Other f (measured longest (m ∷ folder) f) refl
+    (find-measured longest m folder f n)
 find-measured longest m folder (dir k d f) n = by (bytes_eq k m) refl (find-measured longest m folder f n)
   where
     by : (km : Bool) → bytes_eq k m ≡ km
         → find (measured longest (m ∷ folder) f) n ≡ cond (bytes_eq m n) (option_map (node_measured longest folder) (find f n)) (find f n)
         → find (cond km (dir k (measured longest folder d) f) (dir k d (measured longest (m ∷ folder) f))) n
-        ≡ cond (bytes_eq m n) (option_map (node_measured longest folder) (cond (bytes_eq k n) (Some (Dir d)) (find f n))) (cond (bytes_eq k n) (Some (Dir d)) (find f n))
+        ≡ cond (bytes_eq m n) (option_map (node_measured longest folder) (cond (bytes_eq k n) (Some (Dir d)) (find f n)))
+        (cond (bytes_eq k n) (Some (Dir d)) (find f n))
     by true same later = at (bytes_eq k n) (bytes_eq m n) (ap (λ l. bytes_eq l n) (same_name k m same))
       where
         at : (kn mn : Bool) → kn ≡ mn → cond kn (Some (Dir (measured longest folder d))) (find f n)
@@ -113,7 +119,8 @@ find-measured longest m folder (dir k d f) n = by (bytes_eq k m) refl (find-meas
         at false mn not_both later = later
 
 -- what stands at a path is what stood there, seen so
-pub node_at-measured : (longest : ℕ) (folder : Path) (x : Node) (p : Path) → node_at (node_measured longest folder x) p ≡ option_map (node_seen longest folder p) (node_at x p)
+pub node_at-measured : (longest : ℕ) (folder : Path) (x : Node) (p : Path)
+    → node_at (node_measured longest folder x) p ≡ option_map (node_seen longest folder p) (node_at x p)
 node_at-measured longest folder x [] = refl
 node_at-measured longest [] (File b) (n ∷ p) = refl
 node_at-measured longest [] Other (n ∷ p) = refl
@@ -137,7 +144,8 @@ node_at-measured longest (m ∷ folder) (Dir d) (n ∷ p) =
 
 -- ---- files, kinds and listings
 
-file_seen : (longest : ℕ) (folder p : Path) (x : Node) → as_file (node_seen longest folder p x) ≡ cond (is_below folder p) (option_map (text_of_file longest) (as_file x)) (as_file x)
+file_seen : (longest : ℕ) (folder p : Path) (x : Node)
+    → as_file (node_seen longest folder p x) ≡ cond (is_below folder p) (option_map (text_of_file longest) (as_file x)) (as_file x)
 file_seen longest [] [] (File b) = refl
 file_seen longest [] [] (Dir d) = refl
 file_seen longest [] [] Other = refl
@@ -150,7 +158,8 @@ file_seen longest [] (n ∷ p) Other = refl
 file_seen longest (m ∷ folder) (n ∷ p) x = by (bytes_eq m n) (file_seen longest folder p x)
   where
     by : (t : Bool) → as_file (node_seen longest folder p x) ≡ cond (is_below folder p) (option_map (text_of_file longest) (as_file x)) (as_file x)
-        → as_file (cond t (node_seen longest folder p x) x) ≡ cond (cond t (is_below folder p) false) (option_map (text_of_file longest) (as_file x)) (as_file x)
+        → as_file (cond t (node_seen longest folder p x) x)
+        ≡ cond (cond t (is_below folder p) false) (option_map (text_of_file longest) (as_file x)) (as_file x)
     by true later = later
     by false later = refl
 
@@ -227,7 +236,8 @@ listing_seen longest (m ∷ folder) (n ∷ p) x = by (bytes_eq m n) (listing_see
 
 -- a directory lists what it listed
 pub listing_at-measured : (longest : ℕ) (folder : Path) (f : Forest) (p : Path) → listing_at (measured longest folder f) p ≡ listing_at f p
-listing_at-measured longest folder f p = ap (λ o. option_map listing_of (option_and_then as_dir o)) (node_at-measured longest folder (Dir f) p) ∙ by (node_at (Dir f) p)
+listing_at-measured longest folder f p = ap (λ o. option_map listing_of (option_and_then as_dir o)) (node_at-measured longest folder (Dir f) p)
+    ∙ by (node_at (Dir f) p)
   where
     by : (found : Option Node) → option_map listing_of (option_and_then as_dir (option_map (node_seen longest folder p) found))
         ≡ option_map listing_of (option_and_then as_dir found)

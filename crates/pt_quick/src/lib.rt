@@ -1,5 +1,5 @@
 //! What an audit needs that compares names and lengths alone: a source that tells how long a file
-//! is without opening it, and a source seen by lengths.
+//! is without opening it, and a source seen by the lengths of its files.
 //!
 //! Read `Lengths` first, then `Measured`. So a store is seen by the lengths of its files:
 //!
@@ -22,6 +22,9 @@
 //!   each file elsewhere (`files_are_measured`). Of two files below the folder the texts are equal
 //!   only where the lengths are (`lengths_are_told`), and a text has more than `LONGEST_TEXT` bytes
 //!   just where the length is over the greatest that is carried (`long_files_are_marked`).
+//! - Laws on a walk through a store whose pairtree is seen so: it comes to the same directories
+//!   with the same identifiers and causes (`items_are_seen`), and carries and refuses the same
+//!   objects (`outcomes_are_seen`).
 //!
 //! No guarantee of README rests on its definitions yet.
 #![tactic(auto)]

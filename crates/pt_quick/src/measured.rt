@@ -19,7 +19,7 @@ ghost use Rattle.pt_quick.specs.MeasuredSource.{told_by};
 ghost use Rattle.pt_quick.specs.declared.measured.Unread.TheVariants.{OfSource};
 
 use crate::Lengths;
-use pt_tree::{Block, Kind, Listing, NamePath, Source, TreeFault};
+use pt_tree::{Block, Kind, Listing, ListsNamed, NamePath, Source, TreeFault};
 
 /// How many bytes the text of a length has at most that isn't over the greatest.
 pub const LONGEST_TEXT: u64 = 20;
@@ -99,7 +99,12 @@ impl<S: Lengths> Source for Measured<S> {
 
     ghost keeps = { KeepsFolder S.Source };
 
-    ghost is_kept = { λ a. record { folder = refl; longest = refl; tree = refl; source = S.Source.is_kept a.source } };
+    ghost is_kept = { λ a. record {
+      folder = refl;
+      longest = refl;
+      tree = refl;
+      source = S.Source.is_kept a.source;
+    } };
 
     ghost keeps_on = { λ a b c p q. record {
       folder = q.folder ∙ p.folder;
@@ -112,8 +117,8 @@ impl<S: Lengths> Source for Measured<S> {
         (S.Source.keeps_failing a.source b.source p.source)
         (S.keeps_unmeasured a.source b.source p.source) };
 
-    ghost proper = { λ m state is. proper_told m.longest m.folder m.unread (S.Source.told m.source) state
-        (S.Source.proper m.source) is };
+    ghost proper = { λ m state is. proper_told m.longest m.folder m.unread
+        (S.Source.told m.source) state (S.Source.proper m.source) is };
 
     fn failures(&self) -> u64 {
         self.source.failures()
@@ -179,6 +184,16 @@ impl<S: Lengths> Source for Measured<S> {
                 Ok(())
             }
         }
+    }
+}
+
+impl<S: Lengths + ListsNamed> ListsNamed for Measured<S> {
+    fn list_named(
+        &mut self,
+        path: &NamePath,
+        refused: &mut Vec<Vec<u8>>,
+    ) -> Result<Listing, TreeFault> {
+        self.source.list_named(path, refused)
     }
 }
 
