@@ -8,7 +8,8 @@ use Rattle.std.proofs.lemmas.List.Elements.{All-head, All-tail}
 use Rattle.pt_name.specs.Identifying.{identifier_at}
 use Rattle.pt_name.specs.declared.identifying.Refusal.{Refusal}
 use Rattle.pt_object.specs.FilePaths.{File as CarriedFile}
-use Rattle.pt_plan.specs.Items.{Interior, Named, PairtreeObject, Skip, Verdict, cause_of, encapsulated, gathered_from, is_too_deep, item_of, items, ours, outcome, outcome_by, verdict_by_finding, verdict_by_identifier, verdict_by_visit, verdict_on_candidate, verdict_on_object}
+use Rattle.pt_plan.specs.Items.{Interior, Named, PairtreeObject, Skip, Verdict, cause_of, encapsulated, gathered_from, is_too_deep, item_of}
+use Rattle.pt_plan.specs.Items.{items, ours, outcome, outcome_by, verdict_by_finding, verdict_by_identifier, verdict_by_visit, verdict_on_candidate, verdict_on_object}
 use Rattle.pt_name.specs.Share.{Portion, takes, tells_at}
 use Rattle.pt_plan.specs.Job.{Job, form_of, reach_of}
 use Rattle.pt_plan.specs.Store.{is_prefix, pairtree_root, prefix_file, prefix_in, prefix_of, sites_in_root, sites_of, version_file}
@@ -25,8 +26,10 @@ use Rattle.pt_walk.specs.declared.cause.Cause.TheVariants as cause
 use Rattle.pt_walk.specs.declared.site.Finding.{Finding}
 use Rattle.pt_walk.specs.declared.site.Finding.TheVariants as finding
 use Rattle.pt_quick.specs.Measured.{lengths_of, measured, text_of_file}
-use Rattle.pt_quick.specs.SitesMeasured.{AreShort, StoreStays, file_seen, item_seen, limits_seen, object_seen, outcome_seen, site_seen, store_seen, verdict_seen, visit_seen}
-use Rattle.pt_quick.proofs.TreesMeasured.{find-measured, is_dir-measured, is_file-measured, listing-lengths, node_at-measured, node_lengths, node_measured, text_of_carried}
+use Rattle.pt_quick.specs.SitesMeasured.{AreShort, StoreStays, file_seen, item_seen, limits_seen, object_seen}
+use Rattle.pt_quick.specs.SitesMeasured.{outcome_seen, site_seen, store_seen, verdict_seen, visit_seen}
+use Rattle.pt_quick.proofs.TreesMeasured.{find-measured, is_dir-measured, is_file-measured, listing-lengths}
+use Rattle.pt_quick.proofs.TreesMeasured.{node_at-measured, node_lengths, node_measured, text_of_carried}
 
 -- ---- the top
 

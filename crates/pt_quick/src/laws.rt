@@ -1,4 +1,5 @@
-//! Laws on a tree that is seen by lengths, and on a walk through it. Each is the contract of a function that does nothing.
+//! Laws on a tree that is seen by lengths, and on a walk through it. Each is the contract of a
+//! function that does nothing.
 ghost use Rattle.pt_quick.specs.SeenLaws.{BelowAPath, TreesAreMeasured};
 ghost use Rattle.pt_quick.specs.SeenLaws.{FilesAreMeasured, KindsStay, LengthsAreTold};
 ghost use Rattle.pt_quick.specs.SeenLaws.{ListingsStay, LongFilesAreMarked};

@@ -1,4 +1,3 @@
-use Rattle.std.proofs.Common.{rules}
 use Rattle.pt_tree.proofs.Held.{can_read-opened}
 use Rattle.pt_quick_tests.proofs.measured_sources.reads.Goals as goal
 
