@@ -26,7 +26,7 @@
 //!   with the same identifiers and causes (`items_are_seen`), and carries and refuses the same
 //!   objects (`outcomes_are_seen`).
 //!
-//! No guarantee of README rests on its definitions yet.
+//! No guarantee of README rests on its definitions.
 #![tactic(auto)]
 
 pub mod laws;

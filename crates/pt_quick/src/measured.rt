@@ -24,7 +24,7 @@ use pt_tree::{Block, Kind, Listing, ListsNamed, NamePath, Source, TreeFault};
 /// How many bytes the text of a length has at most that isn't over the greatest.
 pub const LONGEST_TEXT: u64 = 20;
 
-// What stands behind the digits of a length that is.
+// What stands behind the digits of a length that is over it.
 const MARK: &[u8] = b"00000000000000000000";
 
 // What is left to read of the open file: it is the source's; or the text of a length is; or that
