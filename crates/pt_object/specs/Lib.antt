@@ -6,6 +6,7 @@ pub mod Entries
 pub mod FilePaths
 pub mod Files
 pub mod Hasher
+pub mod HexDigest
 pub mod Holding
 pub mod InPieces
 pub mod Index

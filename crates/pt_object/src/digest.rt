@@ -7,8 +7,11 @@ ghost use Rattle.std.specs.Cmp.Lexicographic.{texts_po};
 ghost use Rattle.std.proofs.Common.{rules};
 ghost use Rattle.hex.specs.Hex.{encode_lower};
 ghost use Rattle.pt_object.specs.Digest.{digest_cmp};
+ghost use Rattle.pt_object.specs.HexDigest.{digest_in, hex_digest};
 ghost use Rattle.pt_object.specs.Keys.{key_of};
 
+use crate::Algorithm;
+use hex::FromHex;
 use pt_tree::MemoryFault;
 use std::alloc::Global;
 use std::cmp::Ordering;
@@ -86,6 +89,35 @@ impl Digest {
         ensures { IfOk result (λ text. string_bytes text ≡ encode_lower self.now) }
     {
         Ok(hex::encode(alloc, self.bytes())?)
+    }
+
+    /// The digest of an algorithm that `hex` gives as this text; None where it is that of none, as
+    /// of one with capital letters. `Memory` where a growth was refused.
+    pub fn of_hex(
+        alloc: Global,
+        text: &str,
+        algorithm: Algorithm,
+    ) -> Result<Option<Digest>, MemoryFault>
+        ensures { IfOk result (λ digest. digest ≡ hex_digest algorithm text.now) }
+    {
+        let Some(digest) = of_digits(text, algorithm) else {
+            return Ok(None);
+        };
+        if digest.hex(alloc)?.as_str() == text {
+            Ok(Some(digest))
+        } else {
+            Ok(None)
+        }
+    }
+}
+
+// The digest whose hex this text is, in letters of either case.
+fn of_digits(text: &str, algorithm: Algorithm) -> Option<Digest>
+    ensures { result ≡ digest_in algorithm text.now }
+{
+    match algorithm {
+        Algorithm::Sha512 => Some(Digest::long(<[u8; 64] as FromHex>::from_hex(text).ok()?)),
+        Algorithm::Sha256 => Some(Digest::short(<[u8; 32] as FromHex>::from_hex(text).ok()?)),
     }
 }
 
