@@ -24,10 +24,10 @@ none_and_some (Some x) some none = absurd (cc)
 
 module _ (sought : Sought) (t : Tree) (order : part_in_order (paths_of sought.stored) ≡ true) (apart : are_apart (paths_of sought.stored) ≡ true)
     (inventory : List ℕ) (made : IsMade sought.text_with inventory) (all : (q : Path) → t q ≡ object_with sought inventory q) where
-  top_is : t [] ≡ Some Folder
+  pub top_is : t [] ≡ Some Folder
   top_is = all [] ∙ at_top sought order apart t inventory
 
-  inventory_is : t version_inventory ≡ Some (Bytes inventory)
+  pub inventory_is : t version_inventory ≡ Some (Bytes inventory)
   inventory_is = all version_inventory ∙ (locate sought order apart t inventory (early_items sought.stored) (MakeFile version_inventory inventory)
       (last_items sought.algorithm inventory) (are_items sought order apart t inventory)).wanted
 

@@ -72,8 +72,9 @@ pub(crate) fn are_the_rest<R: Source>(
     has_ended(root, block)
 }
 
-/// All that is left of the open file of a root.
-pub(crate) fn rest_of<R: Source>(
+/// All that is left of the open file of a root. `Memory` where a growth was refused, or it has more
+/// than 2^64 bytes.
+pub fn rest_of<R: Source>(
     alloc: Global,
     root: &mut R,
     block: &mut Block,

@@ -40,7 +40,7 @@ mod root;
 mod scanned;
 mod stop;
 
-pub use bytes::{come_next, has_ended};
+pub use bytes::{come_next, has_ended, rest_of};
 pub use comparing::compare;
 pub use difference::{Comparison, Difference, Why};
 pub use paths::content_path;
