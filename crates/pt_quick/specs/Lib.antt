@@ -1,6 +1,10 @@
+pub mod Claimed
+pub mod ClaimedLaws
 pub mod Lengths
 pub mod Measured
 pub mod MeasuredLaws
 pub mod MeasuredSource
+pub mod Quick
+pub mod QuickLaws
 pub mod SeenLaws
 pub mod SitesMeasured

@@ -1,5 +1,7 @@
-//! Laws on a tree that is seen by lengths, and on a walk through it. Each is the contract of a
-//! function that does nothing.
+//! Laws of the definitions, for callers to cite: on a tree that is seen by lengths and a walk through
+//! it, and on an object that is looked over. Each is the contract of a function that does nothing.
+ghost use Rattle.pt_quick.specs.ClaimedLaws.{InventoryClaimsItsRows};
+ghost use Rattle.pt_quick.specs.QuickLaws.{RowsOfFilesHaveDigests, StandingObjectIsAlike};
 ghost use Rattle.pt_quick.specs.SeenLaws.{BelowAPath, TreesAreMeasured};
 ghost use Rattle.pt_quick.specs.SeenLaws.{FilesAreMeasured, KindsStay, LengthsAreTold};
 ghost use Rattle.pt_quick.specs.SeenLaws.{ListingsStay, LongFilesAreMarked};
@@ -61,4 +63,20 @@ pub fn items_are_seen()
 /// where the walk carries files of at most `LONGEST_TEXT` bytes.
 pub fn outcomes_are_seen()
     ensures { OutcomesAreSeen }
+{}
+
+/// An inventory that was made of some rows, with digests of its algorithm, claims just their
+/// digests for rows with the same paths.
+pub fn inventory_claims_its_rows()
+    ensures { InventoryClaimsItsRows }
+{}
+
+/// An object that stands just as it is sought is alike, so `look_over` finds it the same.
+pub fn standing_object_is_alike()
+    ensures { StandingObjectIsAlike }
+{}
+
+/// The rows of files have digests of their algorithm, as `look_over` asks of an object's.
+pub fn rows_of_files_have_digests()
+    ensures { RowsOfFilesHaveDigests }
 {}
