@@ -52,8 +52,7 @@ pub fn list_named<S: System>(
         (entry_in folder.now.path.now path.now)
         (change_of syscalls.old.system syscalls.new.system) refused.new.items) }
     ensures fault { IfErr result (FailsToListPast S.System S.Dir.Input
-        (entry_in folder.now.path.now path.now)
-        (change_of syscalls.old.system syscalls.new.system)
+        (entry_in folder.now.path.now path.now) (change_of syscalls.old.system syscalls.new.system)
         (change_of refused.old.items refused.new.items)) }
     ensures kept { OnDevice result
         (KeepsListing S.looks folder.now.path.now path.now syscalls.new.last.failure) }
