@@ -1,5 +1,5 @@
 -- What a quick audit finds of an object: whether just the object stands at its place, with some digests of its files.
-use Rattle.std.specs.Prelude.{◌≡◌, ◌↔◌, ℕ, All, List, [], ◌++◌, Option, None, Some}
+use Rattle.std.specs.Prelude.{◌≡◌, ◌↔◌, ℕ, All, List, [], ◌++◌, Option, None, Some, map, true}
 use Rattle.std.specs.Option.{ForSome}
 use Rattle.std.specs.Str.{IsUtf8}
 use Rattle.pt_compare.specs.Found.{IsFound, IsObject, Sought, version_inventory}
@@ -7,6 +7,7 @@ use Rattle.pt_compare.specs.Marks.{inside}
 use Rattle.pt_compare.specs.declared.difference.Comparison.{Comparison}
 use Rattle.pt_compare.specs.declared.difference.Comparison.TheVariants.{Absent, Same}
 use Rattle.pt_compare.specs.declared.scanned.ScannedObject.{ScannedObject}
+use Rattle.pt_object.specs.Distinct.{content_of_row, distinct}
 use Rattle.pt_object.specs.FilePaths.{row_paths}
 use Rattle.pt_object.specs.HexDigest.{IsDigest}
 use Rattle.pt_object.specs.Inventory.{inventory_text}
@@ -17,6 +18,7 @@ use Rattle.pt_quick.specs.Claimed.{claimed_in}
 use Rattle.pt_tree.specs.Forest.{Forest}
 use Rattle.pt_tree.specs.Path.{Path}
 use Rattle.pt_tree.specs.Name.{AreNames}
+use Rattle.pt_tree.specs.PathOrder.{part_in_order}
 use Rattle.pt_tree.specs.Tree.{Bytes, Tree, tree_of}
 use Rattle.pt_walk.specs.Left.{bytes_at}
 
@@ -31,6 +33,12 @@ sought_with object rows source = record {
 -- each digest is one of the algorithm
 abbrev pub HaveDigests : Algorithm → List Row → Type 0
 HaveDigests algorithm rows = All (λ row. IsDigest algorithm row.digest) rows
+
+-- an object's rows come in the order of their paths, with digests of its algorithm, and its contents are theirs
+pub record AreScanned (object : ScannedObject) : Type 0 where
+  pub contents : object.contents.now ≡ map content_of_row (distinct object.rows.now)
+  pub order : part_in_order (row_paths object.rows.now) ≡ true
+  pub digests : HaveDigests object.algorithm object.rows.now
 
 -- with their digests these could be the object's rows
 pub record CouldBe (object : ScannedObject) (rows : List Row) : Type 0 where

@@ -1,6 +1,6 @@
 //! An object of a store, held against what stands at its place by what both sources show of its
 //! files, with the digests that the inventory there claims for them.
-ghost use Rattle.std.specs.Prelude.{◌≡◌, ◌++◌, [], All, IfOk, IfSome, Some, cond, map, true};
+ghost use Rattle.std.specs.Prelude.{◌≡◌, ◌++◌, [], All, IfOk, IfSome, Some, cond, map};
 ghost use Rattle.std.specs.Option.{ForSome, option_map};
 ghost use Rattle.std.specs.String.{string_bytes};
 ghost use Rattle.pt_compare.specs.Beside.{IsKnown, IsKnownToStand};
@@ -9,11 +9,9 @@ ghost use Rattle.pt_compare.specs.Marks.{inside};
 ghost use Rattle.pt_compare.specs.Meeting.{both};
 ghost use Rattle.pt_compare.specs.Root.{KeepsRoot, Stands};
 ghost use Rattle.pt_object.specs.Distinct.{content_of_row, distinct};
-ghost use Rattle.pt_object.specs.FilePaths.{row_paths};
 ghost use Rattle.pt_plan.specs.TurnStart.{is_dir_kind};
-ghost use Rattle.pt_quick.specs.Quick.{ClaimsIn, CouldBe, HaveDigests, IsQuick, IsTextAt};
+ghost use Rattle.pt_quick.specs.Quick.{AreScanned, ClaimsIn, CouldBe, IsQuick, IsTextAt};
 ghost use Rattle.pt_tree.specs.Failures.{IsCounted};
-ghost use Rattle.pt_tree.specs.PathOrder.{part_in_order};
 ghost use Rattle.pt_tree.specs.Source.{CanOpen, IsSeen, tree_in};
 ghost use Rattle.pt_tree.specs.declared.kind.Kind.TheVariants as kind;
 
@@ -38,10 +36,7 @@ pub fn look_over<S: Source, R: Source>(
     root: &mut R,
     object: &ScannedObject<'_>,
 ) -> Result<Comparison, Fault>
-    requires contents { object.now.contents.now
-        ≡ map content_of_row (distinct object.now.rows.now) }
-    requires order { part_in_order (row_paths object.now.rows.now) ≡ true }
-    requires digests { HaveDigests object.now.algorithm object.now.rows.now }
+    requires rows { AreScanned object.now }
     requires files { All (λ row. CanOpen (S.told source.old) (object.now.from.now ++ row.path))
         object.now.rows.now }
     requires known { IsKnown (tree_in (S.told source.old)) (tree_in (R.told root.old)) object.now }

@@ -12,8 +12,8 @@ use Rattle.pt_quick.proofs.quick.look_over.Goals as goal
 pub returns-in_default-clause-found : goal.returns-in_default-clause-found
 returns-in_default-clause-found g c =
     let seen : IsSeen (tree_in (g.R.Source.told c.args.root.now)) c.args.object.now.to.now c.in_ok-here.here = search rules in
-    tells_absent (tree_in (g.S.Source.told c.args.source.now)) (tree_in (g.R.Source.told c.args.root.now)) c.args.object.now c.requires.order
-    (subst (IsSeen (tree_in (g.R.Source.told c.args.root.now)) c.args.object.now.to.now) c.in_default.is seen) c.requires.digests
+    tells_absent (tree_in (g.S.Source.told c.args.source.now)) (tree_in (g.R.Source.told c.args.root.now)) c.args.object.now c.requires.rows.order
+    (subst (IsSeen (tree_in (g.R.Source.told c.args.root.now)) c.args.object.now.to.now) c.in_default.is seen) c.requires.rows.digests
 
 pub compare-requires-clause-files : goal.compare-requires-clause-files
 compare-requires-clause-files g c =
@@ -28,7 +28,7 @@ returns-in-Some-2-clause-found g c =
     let claims : ClaimsIn (tree_in (g.R.Source.told c.at_place.new.root)) c.args.object.now
     (option_map (λ (files : ClaimedFiles). files.rows) c.in_ok-files.field-0) = search rules in
     tells_claimed (tree_in (g.S.Source.told c.args.source.now)) (tree_in (g.R.Source.told c.args.root.now)) (tree_in (g.R.Source.told c.claimed_at.new.root))
-    c.args.object.now c.requires.order (c.claimed_at.ensures.root.1 ∙ ap tree_in c.at_place.ensures.same) c.in-Some-2.files.rows c.in-Some.kind c.compare.result
+    c.args.object.now c.requires.rows.order (c.claimed_at.ensures.root.1 ∙ ap tree_in c.at_place.ensures.same) c.in-Some-2.files.rows c.in-Some.kind c.compare.result
     (subst (IsSeen (tree_in (g.R.Source.told c.args.root.now)) c.args.object.now.to.now) c.in-Some.is seen)
     (subst (λ (tree : Option Forest). ClaimsIn tree c.args.object.now (Some c.in-Some-2.files.rows)) (ap tree_in c.at_place.ensures.same)
     (rw c.in-Some-2.is at claims)) could c.compare.ensures.found
@@ -39,7 +39,7 @@ returns-in-None-clause-found g c =
     let claims : ClaimsIn (tree_in (g.R.Source.told c.at_place.new.root)) c.args.object.now
     (option_map (λ (files : ClaimedFiles). files.rows) c.in_ok-files.field-0) = search rules in
     tells_unclaimed (tree_in (g.S.Source.told c.args.source.now)) (tree_in (g.R.Source.told c.args.root.now)) (tree_in (g.R.Source.told c.claimed_at.new.root))
-    c.args.object.now c.requires.order (c.claimed_at.ensures.root.1 ∙ ap tree_in c.at_place.ensures.same) c.in-Some.kind c.compare-in-None.result
+    c.args.object.now c.requires.rows.order (c.claimed_at.ensures.root.1 ∙ ap tree_in c.at_place.ensures.same) c.in-Some.kind c.compare-in-None.result
     (subst (IsSeen (tree_in (g.R.Source.told c.args.root.now)) c.args.object.now.to.now) c.in-Some.is seen)
     (subst (λ (tree : Option Forest). ClaimsIn tree c.args.object.now None) (ap tree_in c.at_place.ensures.same) (rw c.in-None.is at claims))
-    c.requires.digests c.compare-in-None.ensures.found
+    c.requires.rows.digests c.compare-in-None.ensures.found
