@@ -1,5 +1,6 @@
-//! Laws of the definitions, for callers to cite: on a tree that is seen by lengths and a walk through
-//! it, and on an object that is looked over. Each is the contract of a function that does nothing.
+//! Laws of the definitions, for callers to cite: on a tree that is seen by lengths and a walk
+//! through it, and on an object that is looked over. Each is the contract of a function that does
+//! nothing.
 ghost use Rattle.pt_quick.specs.ClaimedLaws.{InventoryClaimsItsRows};
 ghost use Rattle.pt_quick.specs.QuickLaws.{RowsOfFilesHaveDigests, StandingObjectIsAlike};
 ghost use Rattle.pt_quick.specs.SeenLaws.{BelowAPath, TreesAreMeasured};
