@@ -4,8 +4,8 @@ ghost use Rattle.pt_tree.specs.Source.{CanList, IsListed};
 
 use crate::{Listing, NamePath, Source, TreeFault};
 
-/// A source that can list a directory past entries whose bytes are no name. `Ignoring` over such a
-/// one is one too.
+/// A source that can list a directory past entries whose bytes are no name. `Ignoring` or `Watched`
+/// over such a one is one too.
 pub trait ListsNamed: Source {
     /// As `list`, but such entries are left out, and their bytes become `refused`, sorted. Each
     /// source says for itself what these are.

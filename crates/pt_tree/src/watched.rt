@@ -1,7 +1,8 @@
-//! A source that is watched. It meets `Source` by the contracts of the source within.
+//! A source that is watched. It is a source, also past what is no name, by the contracts of the
+//! source within.
 ghost use Rattle.std.specs.Prelude.{◌≡◌};
 
-use crate::{Block, Kind, Listing, NamePath, Source, TreeFault};
+use crate::{Block, Kind, Listing, ListsNamed, NamePath, Source, TreeFault};
 
 /// Who is told of the calls of a watched source.
 pub trait Watcher {
@@ -33,6 +34,13 @@ impl<S: Source, W: Drop> Watched<S, W> {
     /// Who is told.
     pub fn watcher(&self) -> &W {
         &self.watcher
+    }
+
+    /// The source that is watched, as the calls left it.
+    pub fn source(&self) -> &S
+        ensures { result.now ≡ self.now.source }
+    {
+        &self.source
     }
 
     /// The source that was watched, as the calls left it.
@@ -85,5 +93,16 @@ impl<S: Source, W: Watcher> Source for Watched<S, W> {
         self.source.next(block)?;
         self.watcher.add_bytes(block.len());
         Ok(())
+    }
+}
+
+impl<S: ListsNamed, W: Watcher> ListsNamed for Watched<S, W> {
+    // The folder was come to as it was listed first.
+    fn list_named(
+        &mut self,
+        path: &NamePath,
+        refused: &mut Vec<Vec<u8>>,
+    ) -> Result<Listing, TreeFault> {
+        self.source.list_named(path, refused)
     }
 }
