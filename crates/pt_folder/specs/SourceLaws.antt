@@ -1,5 +1,5 @@
 -- What a system keeps to that keeps the tree of a folder that nobody writes, as POSIX says of its calls.
-use Rattle.std.specs.Prelude.{◌≡◌, ℕ, true, List, map, Option, None, Some, IsSome, IfOk, IsPermutation, Result}
+use Rattle.std.specs.Prelude.{◌≡◌, ℕ, true, List, length, map, Option, None, Some, IsSome, IfOk, IsPermutation, Result}
 use Rattle.std.specs.Option.{option_map, ForSome}
 use Rattle.std.specs.declared.io.Error.{Error}
 use Rattle.pt_tree.specs.Forest.{Forest, Dir, dir_at, file_at, is_proper, kind_of, listing_of, node_at}
@@ -14,6 +14,15 @@ use Rattle.pt_tree.specs.declared.kind.Kind.{Kind}
 pub record Looked (old new : Option Forest) (p : Path) (reply : Result Kind Error) : Type 0 where
   pub same : new ≡ old
   pub shown : ForSome old (λ f. LooksRight (option_map kind_of (node_at (Dir f) p)) reply)
+
+-- an answer is the length of a file with these bytes
+abbrev pub IsLengthOf : Option (List ℕ) → Result ℕ Error → Type 0
+IsLengthOf bytes reply = IfOk reply (λ count. option_map length bytes ≡ Some count)
+
+-- the length of a file is told, and nothing changes
+pub record Measured (old new : Option Forest) (p : Path) (reply : Result ℕ Error) : Type 0 where
+  pub same : new ≡ old
+  pub told : ForSome old (λ f. IsLengthOf (file_at f p) reply)
 
 -- a file is opened at its start, and changes nothing
 pub record Opened {F : Type 0} (bytes left : F → Option (List ℕ)) (old new : Option Forest)
@@ -47,6 +56,15 @@ LookLaw {S} forest looks =
     (old new : S) (folder : List ℕ) (p : Path) (reply : Result Kind Error) → IsPath p
     → ForSome (forest old folder) (λ f. IsSome (dir_at f (parent p)))
     → looks old (entry_text folder p) reply new → Looked (forest old folder) (forest new folder) p reply
+
+-- where a file stands, the answer is its length, and nothing changes
+abbrev pub LengthLaw : {S : Type 0} → (S → List ℕ → Option Forest)
+    → (S → List ℕ → Result ℕ Error → S → Type 0) → Type 0
+LengthLaw {S} forest measures =
+    (old new : S) (folder : List ℕ) (p : Path) (reply : Result ℕ Error) → IsPath p
+    → ForSome (forest old folder) (λ f. IsSome (file_at f p))
+    → measures old (entry_text folder p) reply new
+    → Measured (forest old folder) (forest new folder) p reply
 
 -- where a file stands, opening it changes nothing; it stands at its start, with the tree's bytes
 abbrev pub OpenLaw : {S F : Type 0} → (S → List ℕ → Option Forest) → (F → Option (List ℕ))

@@ -6,7 +6,7 @@ use Rattle.pt_tree.specs.Forest.{Forest, is_proper}
 use Rattle.pt_tree.specs.Path.{Path}
 use Rattle.pt_tree.specs.Tree.{Tree, IsTree}
 use Rattle.pt_folder.specs.FailingLaws.{FailsStillLaw}
-use Rattle.pt_folder.specs.SourceLaws.{Listed, Looked, Opened}
+use Rattle.pt_folder.specs.SourceLaws.{Listed, Looked, Measured, Opened}
 use Rattle.pt_folder.specs.DestLaws.{Adds, Kept, MakesDir, MakesFile, Moves}
 use Rattle.pt_folder.specs.DestLaws.{Looked as Seen, Opened as Peeked}
 use Rattle.pt_tree.specs.declared.kind.Kind.{Kind}
@@ -22,6 +22,10 @@ unknown file = None
 -- the law of a look
 pub untold_look : (p : Path) (reply : Result Kind Error) → Looked no_forest no_forest p reply
 untold_look p reply = record { same = refl; shown = λ f is. absurd (cc) }
+
+-- the law of a file's length
+pub untold_length : (p : Path) (reply : Result ℕ Error) → Measured no_forest no_forest p reply
+untold_length p reply = record { same = refl; told = λ f is. absurd (cc) }
 
 -- the law of an opening
 pub untold_open : {F : Type 0} (p : Path) (reply : Result F Error)

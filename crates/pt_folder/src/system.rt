@@ -14,7 +14,7 @@ ghost use Rattle.pt_folder.specs.FailingLaws.{ListFailsLaw, LookFailsLaw, OpenFa
 ghost use Rattle.pt_folder.specs.Laws.{Gives, GoesRight};
 ghost use Rattle.pt_folder.specs.DestLaws.{DirLaw, FileLaw, Kept, KindLaw, MoveLaw, PeekLaw};
 ghost use Rattle.pt_folder.specs.DestLaws.{StillLaw, TreeLaw, WriteLaw};
-ghost use Rattle.pt_folder.specs.SourceLaws.{LookLaw, NamesLaw, OpenLaw, ProperLaw};
+ghost use Rattle.pt_folder.specs.SourceLaws.{LengthLaw, LookLaw, NamesLaw, OpenLaw, ProperLaw};
 
 use pt_tree::Kind;
 use std::io;
@@ -85,6 +85,9 @@ pub trait System {
     /// What is at a path may be told to be of this kind, links not followed.
     ghost looks: { Self → List ℕ → Result Kind Error → Self → Type 0 };
 
+    /// The length of the file at a path may be told so.
+    ghost measures: { Self → List ℕ → Result ℕ Error → Self → Type 0 };
+
     /// The file at a path, opened for reading, may be this.
     ghost opens: { Self → List ℕ → Result Self.File Error → Self → Type 0 };
 
@@ -106,6 +109,10 @@ pub trait System {
     /// The kind of what is at a path itself; links aren't followed.
     fn lstat(&mut self, path: &str) -> io::Result<Kind>
         ensures { looks self.old path.now result self.new };
+
+    /// The length in bytes of the file at a path itself, which isn't opened; links aren't followed.
+    fn lstat_length(&mut self, path: &str) -> io::Result<u64>
+        ensures { measures self.old path.now result self.new };
 
     /// Opens a file for reading.
     fn open_to_read(&mut self, path: &str) -> io::Result<Self::File>
@@ -134,6 +141,9 @@ pub trait System {
 
     /// A look below a folder that is read.
     ghost look_law: { LookLaw forest looks };
+
+    /// The length of a file of a folder that is read.
+    ghost length_law: { LengthLaw forest measures };
 
     /// A file of a folder that is read, opened for reading.
     ghost open_law: { OpenLaw forest Self.File.Input.bytes Self.File.Input.left opens };

@@ -1,6 +1,6 @@
 //! A system whose files and folders are made, not kept: it looks a path up, and traces each call.
 ghost use Rattle.std.specs.Prelude.{⊤, ◌≡◌, ◌≤◌, length, refl};
-ghost use Rattle.pt_folder.specs.Untold.{no_fails, no_forest, no_kept, no_paths, unknown, untold_dir, untold_fails, untold_fails_at, untold_fails_still, untold_fails_told, untold_file, untold_kind, untold_look, untold_move, untold_names, untold_open, untold_peek, untold_proper, untold_tree, untold_write};
+ghost use Rattle.pt_folder.specs.Untold.{no_fails, no_forest, no_kept, no_paths, unknown, untold_dir, untold_fails, untold_fails_at, untold_fails_still, untold_fails_told, untold_file, untold_kind, untold_length, untold_look, untold_move, untold_names, untold_open, untold_peek, untold_proper, untold_tree, untold_write};
 
 use crate::content::Content;
 use crate::trace::Trace;
@@ -224,6 +224,8 @@ impl<'a> System for MadeSystem<'a> {
 
     ghost looks = { λ _ _ _ _. ⊤ };
 
+    ghost measures = { λ _ _ _ _. ⊤ };
+
     ghost opens = { λ _ _ _ _. ⊤ };
 
     ghost makes_file = { λ _ _ _ _. ⊤ };
@@ -237,6 +239,8 @@ impl<'a> System for MadeSystem<'a> {
     ghost writes = { λ _ _ _ _ _ _. ⊤ };
 
     ghost look_law = { λ old new folder p reply named can by. untold_look p reply };
+
+    ghost length_law = { λ old new folder p reply named can by. untold_length p reply };
 
     ghost open_law = { λ old new folder p reply named can by. untold_open p reply };
 
@@ -277,6 +281,18 @@ impl<'a> System for MadeSystem<'a> {
         match self.tree.kind(path.as_bytes()) {
             Some(kind) => Ok(kind),
             None => absent(),
+        }
+    }
+
+    fn lstat_length(&mut self, path: &str) -> io::Result<u64> {
+        self.called(8, path);
+        match self.tree.held(path.as_bytes()) {
+            Some(Held::Made(content)) => Ok(content.len),
+            Some(Held::Kept(number)) => match self.kept.get(number) {
+                Some(bytes) => Ok(bytes.len() as u64),
+                None => absent(),
+            },
+            _ => absent(),
         }
     }
 

@@ -7,6 +7,7 @@ use Rattle.pt_tree.specs.declared.kind.Kind.{Kind}
 use Rattle.pt_tree.specs.Path.{Path}
 use Rattle.pt_folder.specs.Folder.{IsAbsent, entry_text}
 use Rattle.pt_folder.specs.Laws.{IsPath, LooksRight}
+use Rattle.pt_folder.specs.SourceLaws.{IsLengthOf}
 use Rattle.pt_memory_system.specs.System.{OfEntry, bytes_in}
 use Rattle.pt_memory_system.specs.declared.file.MemFile.{MemFile}
 
@@ -28,3 +29,9 @@ pub opens_file : (folder text : List ℕ) (here : Path → Option (List ℕ)) (p
     → OfEntry folder text (λ p. IfOk reply (λ f. bytes_in f ≡ here p))
 opens_file folder text here path reply leads right =
     λ p named is. subst (λ q. IfOk reply (λ f. bytes_in f ≡ here q)) (leads p named is) right
+
+-- the length of the file there
+pub measures_file : (folder text : List ℕ) (here : Path → Option (List ℕ)) (path : Path) (reply : Result ℕ Error)
+    → ((p : Path) → IsPath p → text ≡ entry_text folder p → path ≡ p) → IsLengthOf (here path) reply
+    → OfEntry folder text (λ p. IsLengthOf (here p) reply)
+measures_file folder text here path reply leads right = λ p named is. subst (λ q. IsLengthOf (here q) reply) (leads p named is) right

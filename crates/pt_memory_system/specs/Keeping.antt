@@ -21,6 +21,7 @@ use Rattle.pt_memory_system.specs.System.{
   Looks,
   MakesDir,
   MakesFile,
+  Measures,
   Moves,
   Opens,
   OpensDir,
@@ -54,6 +55,16 @@ looks_in_dest old new folder p reply named by = record {
       let told = told_is old.written.now (dest_tree old.dest) folder t is in
       subst (λ (t : Tree). LooksRight (option_map kind_of_entry (t p)) reply) told.1
       (by.dest p named (ap (λ (l : List ℕ). entry_text l p) (sym told.0)));
+}
+
+-- the length of a file of the folder that is read
+pub measures_in_source : source.LengthLaw forest_in Measures
+measures_in_source old new folder p reply named can by = record {
+  same = ap (λ (s : MemorySystem). forest_in s folder) by.same;
+  told = λ f is.
+      let told = told_is old.read.now (source_tree old.source) folder f is in
+      subst (λ (g : Forest). source.IsLengthOf (file_at g p) reply) told.1
+      (by.source p named (ap (λ (l : List ℕ). entry_text l p) (sym told.0)));
 }
 
 -- a file at its start has all its bytes left

@@ -13,7 +13,7 @@ use Rattle.pt_memory.specs.MemSource.{source_tree}
 use Rattle.pt_folder.specs.DestLaws.{Kept}
 use Rattle.pt_folder.specs.Folder.{entry_text}
 use Rattle.pt_folder.specs.Laws.{IsPath, LooksRight}
-use Rattle.pt_folder.specs.SourceLaws.{GivesAll}
+use Rattle.pt_folder.specs.SourceLaws.{GivesAll, IsLengthOf}
 use Rattle.pt_memory_system.specs.Folders.{told_at}
 use Rattle.pt_memory_system.specs.declared.file.MemFile.{MemFile}
 use Rattle.pt_memory_system.specs.declared.names.MemNames.{MemNames}
@@ -59,6 +59,13 @@ pub record Looks (old : MemorySystem) (text : List ℕ) (reply : Result Kind Err
       (λ p. LooksRight (option_map kind_of (node_at (Dir (source_tree old.source)) p)) reply)
   pub dest : OfEntry old.written.now text
       (λ p. LooksRight (option_map kind_of_entry (dest_tree old.dest p)) reply)
+
+-- the length of a file is told, in both folders, and nothing changes
+pub record Measures (old : MemorySystem) (text : List ℕ) (reply : Result ℕ Error)
+    (new : MemorySystem) : Type 0 where
+  pub same : new ≡ old
+  pub source : OfEntry old.read.now text (λ p. IsLengthOf (file_at (source_tree old.source) p) reply)
+  pub dest : OfEntry old.written.now text (λ p. IsLengthOf (bytes_of (dest_tree old.dest p)) reply)
 
 -- a file is opened at its start with its bytes, in both folders, and nothing changes
 pub record Opens (old : MemorySystem) (text : List ℕ) (reply : Result MemFile Error)

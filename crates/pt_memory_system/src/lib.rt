@@ -12,11 +12,11 @@
 //!
 //! - `MemorySystem`: a `System` of pt_folder whose folder at one path is only read, and whose
 //!   folder at another is written; it tells both. It keeps to every law
-//!   (crates/pt_memory_system/specs/Keeping.antt): a call that looks or opens changes nothing at
-//!   all (`Looks`, `Opens`, `OpensDir`); one that makes or moves leaves exactly the tree that it
-//!   says, or after an error the one that was; a write leaves what it says, or after an error a
-//!   part (`MakesDir`, `MakesFile`, `Moves`, `Writes`). Any call may fail by the contracts; that
-//!   each succeeds where it can is tested.
+//!   (crates/pt_memory_system/specs/Keeping.antt): a call that looks, tells a length or opens
+//!   changes nothing at all (`Looks`, `Measures`, `Opens`, `OpensDir`); one that makes or moves
+//!   leaves exactly the tree that it says, or after an error the one that was; a write leaves what
+//!   it says, or after an error a part (`MakesDir`, `MakesFile`, `Moves`, `Writes`). Any call may
+//!   fail by the contracts; that each succeeds where it can is tested.
 //! - `MemorySystem::new`: none where one path begins with the other. `take`: the system as it was.
 //! - `Faults` says when calls fail and how much one read or write takes. It is shared, so no
 //!   contract says what it holds.

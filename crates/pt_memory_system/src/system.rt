@@ -1,6 +1,7 @@
 ghost use Rattle.std.specs.Prelude.{◌≡◌, ◌↔◌, Some, IfOk, IfSome, IsTrue, is_ok, min, length, take};
 ghost use Rattle.std.specs.Option.{option_copied, option_map};
 ghost use Rattle.pt_folder.specs.Laws.{LooksRight};
+ghost use Rattle.pt_folder.specs.SourceLaws.{IsLengthOf};
 ghost use Rattle.pt_memory_system.specs.Folders.{AreApart};
 
 use crate::faults::{Faults, call_error};
@@ -105,6 +106,26 @@ impl<'a> MemorySystem<'a> {
         }
     }
 
+    fn length_in_source(&self, text: &str) -> io::Result<u64>
+        ensures { OfEntry self.now.read.now text.now
+            (λ p. IsLengthOf (file_at (source_tree self.now.source) p) result) }
+    {
+        match entry_of(self.alloc, self.read, text) {
+            Ok(path) => answer_length(self.source.file(&path)),
+            Err(error) => Err(error),
+        }
+    }
+
+    fn length_in_dest(&self, text: &str) -> io::Result<u64>
+        ensures { OfEntry self.now.written.now text.now
+            (λ p. IsLengthOf (bytes_of (dest_tree self.now.dest p)) result) }
+    {
+        match entry_of(self.alloc, self.written, text) {
+            Ok(path) => answer_length(self.dest.file(&path)),
+            Err(error) => Err(error),
+        }
+    }
+
     fn open_in_source(&self, text: &str) -> io::Result<MemFile<'a>>
         ensures start { IfOk result (λ f. f.place ≡ 0) }
         ensures bytes { OfEntry self.now.read.now text.now (λ p. IfOk result
@@ -146,12 +167,13 @@ impl<'a> System for MemorySystem<'a> {
     ghost use Rattle.pt_folder.specs.Untold.{no_paths, untold_fails_at, untold_fails_still};
     ghost use Rattle.pt_folder.specs.Untold.{untold_fails_told};
     ghost use Rattle.pt_memory_system.specs.Keeping.{looks_in_dest, looks_in_source, makes_dirs};
-    ghost use Rattle.pt_memory_system.specs.Keeping.{makes_files, moves, opens_and_stays};
+    ghost use Rattle.pt_memory_system.specs.Keeping.{makes_files, measures_in_source, moves};
+    ghost use Rattle.pt_memory_system.specs.Keeping.{opens_and_stays};
     ghost use Rattle.pt_memory_system.specs.Keeping.{opens_dirs};
     ghost use Rattle.pt_memory_system.specs.Keeping.{opens_in_dest, opens_in_source, propers};
     ghost use Rattle.pt_memory_system.specs.Keeping.{trees, writes};
-    ghost use Rattle.pt_memory_system.specs.System.{Looks, MakesDir, MakesFile, Moves, Opens};
-    ghost use Rattle.pt_memory_system.specs.System.{OpensDir, Writes, forest_in, kept_in};
+    ghost use Rattle.pt_memory_system.specs.System.{Looks, MakesDir, MakesFile, Measures, Moves};
+    ghost use Rattle.pt_memory_system.specs.System.{Opens, OpensDir, Writes, forest_in, kept_in};
 
     type File = MemFile<'a>;
 
@@ -164,6 +186,8 @@ impl<'a> System for MemorySystem<'a> {
     ghost kept = { kept_in };
 
     ghost looks = { Looks };
+
+    ghost measures = { Measures };
 
     ghost opens = { Opens };
 
@@ -178,6 +202,8 @@ impl<'a> System for MemorySystem<'a> {
     ghost writes = { Writes };
 
     ghost look_law = { looks_in_source };
+
+    ghost length_law = { measures_in_source };
 
     ghost open_law = { opens_in_source };
 
@@ -219,6 +245,17 @@ impl<'a> System for MemorySystem<'a> {
             self.look_in_source(path)
         } else {
             self.look_in_dest(path)
+        }
+    }
+
+    fn lstat_length(&mut self, path: &str) -> io::Result<u64> {
+        if self.faults.fails() {
+            return Err(call_error());
+        }
+        if is_below(self.read, path) {
+            self.length_in_source(path)
+        } else {
+            self.length_in_dest(path)
         }
     }
 
@@ -341,6 +378,16 @@ fn answer_look(kind: Option<Kind>) -> io::Result<Kind>
 {
     match kind {
         Some(kind) => Ok(kind),
+        None => Err(io::Error::from(io::ErrorKind::NotFound)),
+    }
+}
+
+// What the length of a file is, by its bytes, if a file stands there.
+fn answer_length(found: Option<&[u8]>) -> io::Result<u64>
+    ensures { IsLengthOf (option_copied found.entry) result }
+{
+    match found {
+        Some(bytes) => Ok(bytes.len() as u64),
         None => Err(io::Error::from(io::ErrorKind::NotFound)),
     }
 }
