@@ -60,7 +60,7 @@ pub fn compare<S: Source, R: Source>(
         (λ s. ForSome (tree_in (R.told root.old))
         (λ r. IsFound (sought_of object.now s) (inside r object.now.to.now) finding))) }
 {
-    let here = at_place(alloc, root, object).map_err(Fault::of_dest)?;
+    let here = look_at_place(alloc, root, object).map_err(Fault::of_dest)?;
     let Some(kind) = here else {
         return Ok(Comparison::Absent);
     };
@@ -73,9 +73,9 @@ pub fn compare<S: Source, R: Source>(
     }
 }
 
-// The kind of what stands at an object's place, if anything does; what is known of it isn't looked
-// at.
-fn at_place<R: Source>(
+/// The kind of what stands at an object's place; None where nothing does. What is known of it isn't
+/// looked at. `Memory` where a growth was refused, else the fault of the look that failed.
+pub fn look_at_place<R: Source>(
     alloc: Global,
     root: &mut R,
     object: &ScannedObject<'_>,

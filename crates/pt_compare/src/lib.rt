@@ -20,7 +20,8 @@
 //!   it failed.
 //! - How an object is sought at its place: each item of the script by which a run would make it, in
 //!   that order, and then what is left of the entries of its folders (`MeetsObject`).
-//! - `find_kind`: over a root that tells, exactly what stands at a path; None where nothing does.
+//! - `find_kind`, and of an object's place `look_at_place`: over a root that tells, exactly what
+//!   stands there; None where nothing does.
 //! - The version's inventory passes exactly where, for some description of its version that a run
 //!   can be given, it is the text of these rows with that (`IsMade`, `text_if_made`).
 //!
@@ -41,7 +42,7 @@ mod scanned;
 mod stop;
 
 pub use bytes::{come_next, has_ended, rest_of};
-pub use comparing::compare;
+pub use comparing::{compare, look_at_place};
 pub use difference::{Comparison, Difference, Why};
 pub use paths::content_path;
 pub use root::{find_kind, open_standing};
