@@ -3,9 +3,9 @@ use Rattle.std.proofs.Common.{◌≡◌, Bool, false, Result, Ok, Err, subst, sy
 use Rattle.std.specs.Prelude.{IfOk}
 use Rattle.pt_check.specs.FolderListing.{IfEntries, MatchListing, has_entries}
 use Rattle.pt_check.specs.Visits.{CheckState, Finds, Says, TellsReasons, TellsUnlisted, noted_by}
-use Rattle.pt_check.specs.declared.checking.FolderListing.{FolderListing}
-use Rattle.pt_check.specs.declared.checking.FolderListing.TheVariants as listing
-use Rattle.pt_check.specs.declared.checking.ListedEntries.{ListedEntries}
+use Rattle.pt_check.specs.declared.folder_listing.FolderListing.{FolderListing}
+use Rattle.pt_check.specs.declared.folder_listing.FolderListing.TheVariants as listing
+use Rattle.pt_check.specs.declared.folder_listing.ListedEntries.{ListedEntries}
 use Rattle.pt_plan.specs.declared.fault.Fault.{Fault}
 use Rattle.pt_tree.specs.Failures.{HasRisen}
 use Rattle.pt_tree.specs.Path.{Path}

@@ -1,8 +1,18 @@
 -- What of a folder could be listed.
-use Rattle.std.specs.Prelude.{Bool, true, false, ⊤}
-use Rattle.pt_check.specs.declared.checking.FolderListing.{FolderListing}
-use Rattle.pt_check.specs.declared.checking.FolderListing.TheVariants as listing
-use Rattle.pt_check.specs.declared.checking.ListedEntries.{ListedEntries}
+use Rattle.std.specs.Prelude.{Bool, true, false, List, Option, None, Some, ⊤}
+use Rattle.pt_check.specs.declared.folder_listing.FolderListing.{FolderListing}
+use Rattle.pt_check.specs.declared.folder_listing.FolderListing.TheVariants as listing
+use Rattle.pt_check.specs.declared.folder_listing.ListedEntries.{ListedEntries}
+use Rattle.pt_tree.specs.Listing.{Item}
+
+-- these are all entries of it
+abbrev pub whole_listing : List Item → FolderListing
+whole_listing items = listing.Entries (record { listing = items; is_whole = true })
+
+-- it couldn't be listed whole; these are its entries that have names, if those could be
+abbrev pub in_part : Option (List Item) → FolderListing
+in_part (Some items) = listing.Entries (record { listing = items; is_whole = false })
+in_part None = listing.Nothing
 
 -- this holds where nothing could be listed, and that of the entries that could
 abbrev pub MatchListing : FolderListing → Type 0 → (ListedEntries → Type 0) → Type 0

@@ -44,7 +44,9 @@ use crate::judging::{
 use crate::reading::open_whole;
 use crate::shares::{is_all, is_own_object, is_own_way, is_walked};
 use crate::unlisted::{Explains, UnlistedFolder};
-use crate::{CheckDevices, FoundFolder, Numbers, Part, Trouble, Wants, Within};
+use crate::{
+    CheckDevices, FolderListing, FoundFolder, ListedEntries, Numbers, Part, Trouble, Wants, Within,
+};
 use pt_name::{Share, UnmetIdentifiers};
 use pt_plan::Fault;
 use pt_tree::{Kind, Listing, Log, MemoryFault, Name, NamePath, Source, TreeFault};
@@ -62,22 +64,6 @@ pub struct Check<S, L, E> {
     pub(crate) unmet: UnmetIdentifiers,
     pub(crate) numbers: Numbers,
     pub(crate) alloc: Global,
-}
-
-// What of a folder could be listed.
-#[derive(Drop)]
-enum FolderListing {
-    // Entries of it.
-    Entries(ListedEntries),
-    // Nothing.
-    Nothing,
-}
-
-// All entries of a folder, or those that have names.
-#[derive(Drop)]
-struct ListedEntries {
-    listing: Listing,
-    is_whole: bool,
 }
 
 impl<S: Source, L: Log, E: Explains<S> + Drop> Check<S, L, E> {
@@ -425,10 +411,7 @@ impl<S: Source, L: Log, E: Explains<S> + Drop> Check<S, L, E> {
         ensures fault { LogFailsAs (L.failed self.old.log) (L.failed self.new.log) result }
     {
         match self.source.list(path) {
-            Ok(listing) => Ok(FolderListing::Entries(ListedEntries {
-                listing,
-                is_whole: true,
-            })),
+            Ok(listing) => Ok(FolderListing::whole(listing)),
             Err(TreeFault::Device) => self.list_part(path),
             Err(TreeFault::Memory) => Err(Fault::Memory),
         }
@@ -456,13 +439,7 @@ impl<S: Source, L: Log, E: Explains<S> + Drop> Check<S, L, E> {
             .explains
             .explain_listing(self.alloc, &mut self.source, path)?;
         self.tell_reasons(path, reason.as_str(), &further)?;
-        match listing {
-            Some(listing) => Ok(FolderListing::Entries(ListedEntries {
-                listing,
-                is_whole: false,
-            })),
-            None => Ok(FolderListing::Nothing),
-        }
+        Ok(FolderListing::in_part(listing))
     }
 
     // Opens a file in a folder that is this, and reads it whole where that is wanted; where that

@@ -8,7 +8,7 @@ use Rattle.pt_audit.specs.Failing.{FailsAs}
 use Rattle.pt_extra.proofs.Keeping.{front_from, same_against, told_from}
 use Rattle.pt_extra.proofs.Visiting.{IsBegun, IsFront, IsPut, begun_part, begun_whole, front_not, front_still, put_not, risen_from, risen_on}
 use Rattle.pt_extra.specs.Findings.{Against}
-use Rattle.pt_extra.specs.FolderListing.{IfEntries, MatchListing}
+use Rattle.pt_check.specs.FolderListing.{IfEntries, MatchListing}
 use Rattle.pt_extra.specs.Lines.{ExtraFinding, texts}
 use Rattle.pt_extra.specs.Unlisted.{of_unlisted}
 use Rattle.pt_extra.specs.Walk.{
@@ -28,8 +28,8 @@ use Rattle.pt_extra.specs.Walk.{
   found_unlisted,
   walk_state,
 }
-use Rattle.pt_extra.specs.declared.listing.FolderListing.{FolderListing}
-use Rattle.pt_extra.specs.declared.listing.FolderListing.TheVariants as listing
+use Rattle.pt_check.specs.declared.folder_listing.FolderListing.{FolderListing}
+use Rattle.pt_check.specs.declared.folder_listing.FolderListing.TheVariants as listing
 use Rattle.pt_extra.specs.declared.walking.Extras.{Extras}
 use Rattle.pt_plan.specs.DeviceStates.{Failures}
 use Rattle.pt_plan.specs.Turn.{HasFailed}

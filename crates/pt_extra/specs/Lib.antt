@@ -1,7 +1,6 @@
 pub mod Audits
 pub mod Counting
 pub mod Findings
-pub mod FolderListing
 pub mod Inventories
 pub mod Lines
 pub mod ShareLaws

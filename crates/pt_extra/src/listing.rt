@@ -2,7 +2,7 @@
 ghost use Rattle.std.specs.Prelude.{◌≡◌, ◌∷◌, cond, false, map, string_bytes, IfOk, IsSome};
 ghost use Rattle.std.specs.Prelude.{OnErr, OnOk, Some};
 ghost use Rattle.std.specs.Option.{ForSome};
-ghost use Rattle.pt_extra.specs.FolderListing.{IfEntries, MatchListing};
+ghost use Rattle.pt_check.specs.FolderListing.{IfEntries, MatchListing};
 ghost use Rattle.pt_extra.specs.Lines.{Unlisted};
 ghost use Rattle.pt_extra.specs.Walk.{Fails, FailsPast, Keeps, Tells, TellsFront, TellsReasons};
 ghost use Rattle.pt_extra.specs.Walk.{TellsReasonsFront};
@@ -12,25 +12,9 @@ ghost use Rattle.pt_tree.specs.Source.{tree_in};
 
 use crate::Extras;
 use crate::lines::unlisted_line;
-use pt_check::{Explains, UnlistedFolder};
+use pt_check::{Explains, FolderListing, UnlistedFolder};
 use pt_plan::Fault;
-use pt_tree::{Listing, Log, NamePath, Source, TreeFault};
-
-// What of a folder could be listed.
-#[derive(Drop)]
-pub(crate) enum FolderListing {
-    // Entries of it.
-    Entries(ListedEntries),
-    // Nothing.
-    Nothing,
-}
-
-// All entries of a folder, or those that have names.
-#[derive(Drop)]
-pub(crate) struct ListedEntries {
-    pub(crate) listing: Listing,
-    pub(crate) is_whole: bool,
-}
+use pt_tree::{Log, NamePath, Source, TreeFault};
 
 impl<S: Source, R: Source, L: Log, E: Explains<R> + Drop> Extras<S, R, L, E> {
     // What can be listed of the folder at a path, which in the destination is this. That not all of
@@ -58,10 +42,7 @@ impl<S: Source, R: Source, L: Log, E: Explains<R> + Drop> Extras<S, R, L, E> {
         // That the count is one of 64 bits, for the proof.
         let _failures = self.root.failures();
         match self.root.list(folder) {
-            Ok(listing) => Ok(FolderListing::Entries(ListedEntries {
-                listing,
-                is_whole: true,
-            })),
+            Ok(listing) => Ok(FolderListing::whole(listing)),
             Err(TreeFault::Device) => self.list_part(path, folder),
             Err(TreeFault::Memory) => Err(Fault::Memory),
         }
@@ -92,13 +73,7 @@ impl<S: Source, R: Source, L: Log, E: Explains<R> + Drop> Extras<S, R, L, E> {
             .explains
             .explain_listing(self.alloc, &mut self.root, folder)?;
         self.tell_reasons(path, reason.as_str(), &further)?;
-        match listing {
-            Some(listing) => Ok(FolderListing::Entries(ListedEntries {
-                listing,
-                is_whole: false,
-            })),
-            None => Ok(FolderListing::Nothing),
-        }
+        Ok(FolderListing::in_part(listing))
     }
 
     // Tells that the folder at a path can't be listed whole, for these reasons.

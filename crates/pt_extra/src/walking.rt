@@ -31,12 +31,11 @@ ghost use Rattle.pt_tree.specs.Log.{AppendsFront};
 
 use crate::identifier::identifier_at;
 use crate::lines::{extra_line, stray_line};
-use crate::listing::FolderListing;
 use crate::parts::{is_object, is_part};
 use crate::shares::{looks_at, takes, tells_of};
 use crate::store::{has_folder, has_object};
 use crate::{ExtraDevices, ExtraNumbers};
-use pt_check::Explains;
+use pt_check::{Explains, FolderListing};
 use pt_move::Job;
 use pt_object::WellKnownName;
 use pt_plan::Fault;

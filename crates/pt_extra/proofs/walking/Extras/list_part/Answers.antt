@@ -14,36 +14,6 @@ use Rattle.pt_extra.proofs.walking.Extras.list_part.Goals as goal
 pub explain_listing-requires : goal.explain_listing-requires
 explain_listing-requires g c = may_list (g.R.Source.told c.args.self.now.root) c.args.folder.now c.requires
 
-pub returns-in-Some-clause-told : goal.returns-in-Some-clause-told
-returns-in-Some-clause-told g c =
-    let old = c.args.self.now in
-    let root = c.explain_listing.new.source in
-    let mid = record old { root = root } in
-    let kept = keeps_root g.S.Source g.R.Source g.L.Log g.met.S.Source.is_kept g.met.L.Log.is_kept old root c.explain_listing.ensures.keeps
-    (ap tree_in c.explain_listing.ensures.same) in
-    let reason = c.as_str.result.now in
-    let further = map (λ reason. string_bytes reason) c.deref.result.now in (
-      reason,
-      further,
-      told_from g.S.Source g.R.Source g.L.Log (found_unlisted c.args.path.now (reason ∷ further)) old mid c.tell_reasons.new.self kept
-          c.in_ok-tell_reasons.ensures.told,
-    )
-
-pub returns-in-Some-clause-keeps : goal.returns-in-Some-clause-keeps
-returns-in-Some-clause-keeps g c =
-    let old = c.args.self.now in
-    let root = c.explain_listing.new.source in
-    let mid = record old { root = root } in
-    let kept = keeps_root g.S.Source g.R.Source g.L.Log g.met.S.Source.is_kept g.met.L.Log.is_kept old root c.explain_listing.ensures.keeps
-    (ap tree_in c.explain_listing.ensures.same) in
-    keeps_on g.S.Source g.R.Source g.L.Log g.met.S.Source.keeps_on g.met.R.Source.keeps_on g.met.L.Log.keeps_on old mid
-    c.tell_reasons.new.self kept c.tell_reasons.ensures.keeps
-
-pub returns-in-Some-clause-fails : goal.returns-in-Some-clause-fails
-returns-in-Some-clause-fails g c =
-    let old = c.args.self.now in
-    (g.R.Source.failed c.explain_listing.new.source, c.explain_listing.ensures.failures, c.in_ok-tell_reasons.ensures.fails)
-
 pub returns-clause-told : goal.returns-clause-told
 returns-clause-told g c =
     let old = c.args.self.now in
