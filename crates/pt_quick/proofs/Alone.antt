@@ -1,8 +1,8 @@
 -- The text of each path of an object's files stands in the group of one digest alone, so that digest is claimed for it.
-use Rattle.std.proofs.Common.{◌≡◌, ℕ, List, [], ◌∷◌, ◌++◌, Bool, true, false, refl, sym, ◌∙◌, ap, append_assoc, append-nil}
-use Rattle.std.specs.Prelude.{All, cond, ◌||◌, ◌&&◌, filter, map, Some, slice_index_or}
+use Rattle.std.proofs.Common.{◌≡◌, ℕ, List, [], ◌∷◌, ◌++◌, Bool, true, false, refl, sym, ◌∙◌, ap, subst, append_assoc, append-nil}
+use Rattle.std.specs.Prelude.{All, cond, ◌||◌, ◌&&◌, filter, map, None, Some, slice_index_or}
 use Rattle.std.specs.List.{list_any, list_all}
-use Rattle.std.specs.Option.{option_and_then, option_map, unwrap_or}
+use Rattle.std.specs.Option.{option_and_then, unwrap_or}
 use Rattle.std.specs.Str.{bytes_eq}
 use Rattle.std.proofs.lemmas.Bool.{true≢false, and_parts, or_left, or_right}
 use Rattle.std.proofs.lemmas.List.Elements.{All-cons, All-head, All-nil, All-tail, All-weaker}
@@ -24,7 +24,10 @@ use Rattle.pt_object.specs.declared.algorithm.Algorithm.{Algorithm}
 use Rattle.pt_object.specs.declared.rows.Row.{Row}
 use Rattle.pt_object.proofs.InventoryText.{inventory_reads}
 use Rattle.pt_object.proofs.Manifests.{has}
-use Rattle.pt_quick.specs.Claimed.{Claimed, claimed_all, claims_after, no_claims, with_digests}
+use Rattle.pt_object.specs.Object.{stored_path}
+use Rattle.pt_quick.specs.Claimed.{Claimed, claimed_all, claims_after, fits, no_claims, with_digests, with_text}
+use Rattle.pt_quick.specs.ReadAlike.{HasRead}
+use Rattle.pt_quick.proofs.Alike.{Knows, alike_with, fits_standing, knows_push}
 use Rattle.pt_quick.specs.ClaimedLaws.{InventoryClaimsItsRows}
 use Rattle.pt_quick.proofs.ReadBack.{claim_comes, is_one_of}
 
@@ -160,26 +163,43 @@ claimed_each algorithm rows are apart =
 
 -- ---- all rows
 
-claimed_rows : (claims : Claimed) (front rows told : List Row) → row_paths told ≡ row_paths rows → All (IsClaimed claims) told
-    → claimed_all claims front rows ≡ Some (front ++ with_digests rows told)
-claimed_rows claims front [] told paths each = ap (λ (l : List Row). Some l) (sym (append-nil front))
-claimed_rows claims front (row ∷ rows) [] paths each = absurd (cc)
-claimed_rows claims front (row ∷ rows) (other ∷ told) paths each =
+claimed_rows : (read : Path → List ℕ) (claims known : Claimed) (front rows told : List Row) → row_paths told ≡ row_paths rows
+    → All (IsClaimed claims) told → Knows read known front → All (HasRead read) rows
+    → All (λ row. read (stored_path (front ++ with_digests rows told) row) ≡ read row.path) (with_digests rows told)
+    → claimed_all claims known front rows ≡ Some (front ++ with_digests rows told)
+claimed_rows read claims known front [] told paths each knows own alike = ap (λ (l : List Row). Some l) (sym (append-nil front))
+claimed_rows read claims known front (row ∷ rows) [] paths each knows own alike = absurd (cc)
+claimed_rows read claims known front (row ∷ rows) (other ∷ told) paths each knows own alike =
     let path : other.path ≡ row.path = cc in
     let later : row_paths told ≡ row_paths rows = cc in
     let mine : Row = row_of row.path other.digest row.length in
+    let all : List Row = front ++ mine ∷ with_digests rows told in
+    let P : Row → Type 0 = λ row. read (stored_path all row) ≡ read row.path in
+    let read_it : row.digest ≡ read row.path = All-head (HasRead read) row rows own in
+    let fit : fits known other.digest row.digest ≡ true =
+    fits_standing read known front (with_digests rows told) mine row.digest knows read_it (All-head P mine (with_digests rows told) alike) in
     let here : claims (joined row.path) ≡ Some other.digest =
     ap (λ (p : Path). claims (joined p)) (sym path) ∙ All-head (IsClaimed claims) other told each in
-    ap (λ o. option_and_then (λ claimed. claimed_all claims (front ++ claimed ∷ []) rows) (option_map (λ digest. row_of row.path digest row.length) o)) here
-    ∙ claimed_rows claims (front ++ mine ∷ []) rows told later (All-tail (IsClaimed claims) other told each)
-    ∙ ap (λ (l : List Row). Some l) (append_assoc front (mine ∷ []) (with_digests rows told))
+    let next : Knows read (with_text row.digest (Some other.digest) known) (front ++ mine ∷ []) =
+    subst (λ (d : List ℕ). Knows read (with_text d (Some other.digest) known) (front ++ mine ∷ [])) (sym read_it)
+    (knows_push read known front mine knows (ap (fits known other.digest) (sym read_it) ∙ fit)) in
+    let same : (front ++ mine ∷ []) ++ with_digests rows told ≡ all = append_assoc front (mine ∷ []) (with_digests rows told) in
+    ap (λ o. option_and_then (λ digest. cond (fits known digest row.digest)
+    (claimed_all claims (with_text row.digest (Some digest) known) (front ++ row_of row.path digest row.length ∷ []) rows) None) o) here
+    ∙ ap (λ t. cond t (claimed_all claims (with_text row.digest (Some other.digest) known) (front ++ mine ∷ []) rows) None) fit
+    ∙ claimed_rows read claims (with_text row.digest (Some other.digest) known) (front ++ mine ∷ []) rows told later
+    (All-tail (IsClaimed claims) other told each) next (All-tail (HasRead read) row rows own)
+    (subst (λ (l : List Row). All (λ row. read (stored_path l row) ≡ read row.path) (with_digests rows told)) (sym same)
+    (All-tail P mine (with_digests rows told) alike))
+    ∙ ap (λ (l : List Row). Some l) same
 
 names_of : (told rows : List Row) → row_paths told ≡ row_paths rows → All AreNames (row_paths rows) → All AreNames (row_paths told)
 names_of told rows paths names = rw paths names
 
 pub inventory_claims_its_rows : InventoryClaimsItsRows
-inventory_claims_its_rows id told rows meta algorithm paths names order are =
-    ap (λ o. option_and_then (λ state. claimed_all (claims_after algorithm state no_claims) [] rows) (state_in (unwrap_or o null)))
+inventory_claims_its_rows id told rows meta algorithm read paths names order are alike own =
+    ap (λ o. option_and_then (λ state. claimed_all (claims_after algorithm state no_claims) no_claims [] rows) (state_in (unwrap_or o null)))
     (inventory_reads id told meta algorithm)
-    ∙ claimed_rows (claims_after algorithm (state_members told) no_claims) [] rows told paths
+    ∙ claimed_rows read (claims_after algorithm (state_members told) no_claims) no_claims [] rows told paths
     (claimed_each algorithm told are (apart_rows told (names_of told rows paths names) (ap part_in_order paths ∙ order)))
+    (λ digest. refl) own (alike_with read rows told paths alike)

@@ -1,13 +1,18 @@
 pub mod Adding
+pub mod Agree
+pub mod Alike
 pub mod Alone
 pub mod Bare
+pub mod CarriedFiles
 pub mod Digests
-mod FailsMeasured
+pub mod HeldLengths
+pub mod LengthTexts
 pub mod Looking
+pub mod Pieces
 pub mod Places
 pub mod ReadBack
+pub mod SeenObject
 pub mod SitesMeasured
 pub mod Sized
 pub mod Steps
-pub mod ToldMeasured
-pub mod TreesMeasured
+pub mod Stored

@@ -1,6 +1,6 @@
 -- What a quick audit of an object finds.
-use Rattle.std.proofs.Common.{◌≡◌, ◌∙◌, ◌++◌, ℕ, List, [], true, refl, sym, ap, subst}
-use Rattle.std.specs.Prelude.{Option, None, Some, IsSome}
+use Rattle.std.proofs.Common.{◌≡◌, ◌∙◌, ℕ, List, [], true, refl, sym, ap, subst}
+use Rattle.std.specs.Prelude.{All, Option, None, Some, IsSome}
 use Rattle.pt_compare.specs.Found.{IsFound, IsObject, Sought, version_inventory}
 use Rattle.pt_compare.specs.declared.difference.Comparison.{Comparison}
 use Rattle.pt_compare.specs.declared.difference.Comparison.TheVariants as found
@@ -11,28 +11,50 @@ use Rattle.pt_object.specs.FilePaths.{are_apart, paths_of, row_paths}
 use Rattle.pt_object.specs.declared.rows.Row.{Row}
 use Rattle.pt_object.proofs.ObjectScripts.{in_order_apart}
 use Rattle.pt_quick.specs.Claimed.{claimed_in, with_digests}
-use Rattle.pt_quick.specs.Quick.{ClaimsAt, CouldBe, HaveDigests, IsAlike, IsQuick, sought_with}
+use Rattle.pt_quick.specs.Quick.{ClaimsAt, CouldBe, CouldBeOf, IsAlike, IsQuick, sought_by, source_bytes, source_digest}
 use Rattle.pt_quick.specs.QuickLaws.{StandingObjectIsAlike}
+use Rattle.pt_quick.specs.ReadAlike.{HasRead}
+use Rattle.pt_quick.proofs.Alike.{own_alike}
 use Rattle.pt_quick.proofs.Alone.{inventory_claims_its_rows}
+use Rattle.pt_quick.proofs.Digests.{read_have_digests}
 use Rattle.pt_quick.proofs.Bare.{same_stored, same_text_with}
 use Rattle.pt_tree.specs.Forest.{Forest}
 use Rattle.pt_tree.specs.Path.{Path}
 use Rattle.pt_tree.specs.PathOrder.{part_in_order}
 use Rattle.pt_tree.specs.Tree.{Bytes, Entry, Folder, Tree}
-use Rattle.pt_walk.specs.Left.{bytes_at}
 
-module _ (object : ScannedObject) (order : part_in_order (row_paths object.rows.now) ≡ true) (s : Forest) (t : Tree) where
+-- the object that is sought where these are its rows, of a store whose source's tree this is
+abbrev pub sought_with : ScannedObject → List Row → Forest → Sought
+sought_with object rows source = sought_by object.algorithm object.id.now rows (source_bytes object source)
+
+module _ (object : ScannedObject) (order : part_in_order (row_paths object.rows.now) ≡ true) (s : Forest) (t : Tree)
+    (own : All (HasRead (source_digest object s)) object.rows.now) where
   abbrev held : Path → List ℕ
-  held path = bytes_at s (object.from.now ++ path)
+  held = source_bytes object s
 
-  ordered : (rows : List Row) → CouldBe object rows → part_in_order (paths_of (sought_with object rows s).stored) ≡ true
-  ordered rows could = stored_order held rows (ap part_in_order could.paths ∙ order)
+  -- these could be its rows
+  abbrev Could : List Row → Type 0
+  Could rows = CouldBe object.algorithm (row_paths object.rows.now) (source_bytes object s) rows
 
-  apart : (rows : List Row) → CouldBe object rows → are_apart (paths_of (sought_with object rows s).stored) ≡ true
+  could_here : (rows : List Row) → CouldBeOf object rows → Could rows
+  could_here rows could = record { paths_are = could.paths_are; digests = could.digests; alike = could.alike (source_digest object s) own }
+
+  -- and so could those that were scanned
+  could_own : Could object.rows.now
+  could_own = record {
+    paths_are = refl;
+    digests = read_have_digests object.algorithm (source_bytes object s) object.rows.now own;
+    alike = own_alike (source_digest object s) object.rows.now own;
+  }
+
+  ordered : (rows : List Row) → Could rows → part_in_order (paths_of (sought_with object rows s).stored) ≡ true
+  ordered rows could = stored_order held rows (ap part_in_order could.paths_are ∙ order)
+
+  apart : (rows : List Row) → Could rows → are_apart (paths_of (sought_with object rows s).stored) ≡ true
   apart rows could = in_order_apart (paths_of (sought_with object rows s).stored) (ordered rows could)
 
   -- where the object stands with some digests, something stands
-  top_stands : (rows : List Row) → CouldBe object rows → IsObject (sought_with object rows s) t → t [] ≡ Some Folder
+  top_stands : (rows : List Row) → Could rows → IsObject (sought_with object rows s) t → t [] ≡ Some Folder
   top_stands rows could (inventory, made, all) = top_is (sought_with object rows s) t (ordered rows could) (apart rows could) inventory made all
 
   -- with the digests of other rows the object is sought as with those
@@ -62,13 +84,13 @@ module _ (object : ScannedObject) (order : part_in_order (row_paths object.rows.
           record {
             rows = with_digests object.rows.now alike.rows;
             are = told.1 ∙ ap (λ (b : List ℕ). claimed_in object.algorithm b object.rows.now) made.is
-                ∙ inventory_claims_its_rows object.id.now alike.rows object.rows.now made.meta object.algorithm alike.could.paths told.0 order
-                alike.could.digests;
-            stands = subst (λ (sought : Sought). IsObject sought t) (sym (same_sought alike.rows alike.could.paths)) (inventory, made, all);
+                ∙ inventory_claims_its_rows object.id.now alike.rows object.rows.now made.meta object.algorithm (source_digest object s)
+                alike.could.paths_are told.0 order alike.could.digests alike.could.alike own;
+            stands = subst (λ (sought : Sought). IsObject sought t) (sym (same_sought alike.rows alike.could.paths_are)) (inventory, made, all);
           }
 
   -- what is found with these rows, which stand where the object is alike
-  found_with : (rows : List Row) (finding : Comparison) → CouldBe object rows → IsSome (t []) → (IsAlike object s t → IsObject (sought_with object rows s) t)
+  found_with : (rows : List Row) (finding : Comparison) → Could rows → IsSome (t []) → (IsAlike object s t → IsObject (sought_with object rows s) t)
       → IsFound (sought_with object rows s) t finding → IsQuick object s t finding
   found_with rows finding could some stands is = record {
     same = (
@@ -86,9 +108,9 @@ module _ (object : ScannedObject) (order : part_in_order (row_paths object.rows.
       never None some none = absurd (let e = some in cc)
       never (Some x) some none = absurd (cc)
 
-  pub found_claimed : (rows : List Row) (finding : Comparison) → ClaimsAt object t (Some rows) → CouldBe object rows → IsSome (t [])
+  pub found_claimed : (rows : List Row) (finding : Comparison) → ClaimsAt object t (Some rows) → CouldBeOf object rows → IsSome (t [])
       → IsFound (sought_with object rows s) t finding → IsQuick object s t finding
-  found_claimed rows finding claims could some is = found_with rows finding could some stands is
+  found_claimed rows finding claims could some is = found_with rows finding (could_here rows could) some stands is
     where
       stands : IsAlike object s t → IsObject (sought_with object rows s) t
       stands alike =
@@ -99,24 +121,25 @@ module _ (object : ScannedObject) (order : part_in_order (row_paths object.rows.
           same_rows : (other : List Row) → Some rows ≡ Some other → other ≡ rows
           same_rows other h = cc
 
-  pub found_unclaimed : (finding : Comparison) → ClaimsAt object t None → HaveDigests object.algorithm object.rows.now → IsSome (t [])
+  pub found_unclaimed : (finding : Comparison) → ClaimsAt object t None → IsSome (t [])
       → IsFound (sought_with object object.rows.now s) t finding → IsQuick object s t finding
-  found_unclaimed finding claims digests some is =
-      found_with object.rows.now finding (record { paths = refl; digests = digests }) some
+  found_unclaimed finding claims some is =
+      found_with object.rows.now finding could_own some
       (λ alike. none (claims_it None claims alike)) is
     where
       none : Claims None → IsObject (sought_with object object.rows.now s) t
       none claimed = let e : None ≡ Some claimed.rows = claimed.are in absurd (cc)
 
-  pub found_absent : HaveDigests object.algorithm object.rows.now → t [] ≡ None → IsQuick object s t found.Absent
-  found_absent digests none = record {
+  pub found_absent : t [] ≡ None → IsQuick object s t found.Absent
+  found_absent none = record {
     same = (λ e. absurd (cc), λ alike. absurd (never (top_stands alike.rows alike.could alike.stands)));
     absent = (λ e. none, λ e. refl);
-    found = record { rows = object.rows.now; could = record { paths = refl; digests = digests }; found = none };
+    found = record { rows = object.rows.now; could = could_own; found = none };
   }
     where
       never : t [] ≡ Some Folder → ⊥
       never h = let e : Some Folder ≡ None = sym h ∙ none in absurd (cc)
 
 pub standing_is_alike : StandingObjectIsAlike
-standing_is_alike object source t digests stands = record { rows = object.rows.now; could = record { paths = refl; digests = digests }; stands = stands }
+standing_is_alike algorithm id rows bytes t digests alike stands =
+    record { rows = rows; could = record { paths_are = refl; digests = digests; alike = alike }; stands = stands }

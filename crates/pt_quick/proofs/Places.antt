@@ -23,10 +23,11 @@ use Rattle.pt_object.specs.declared.rows.Row.{Row}
 use Rattle.pt_plan.specs.TurnStart.{is_dir_kind}
 use Rattle.pt_plan.specs.declared.fault.Fault.{Fault}
 use Rattle.pt_quick.specs.Claimed.{claimed_in}
-use Rattle.pt_quick.specs.Quick.{ClaimsIn, CouldBe, HaveDigests, IsQuick, IsTextAt, sought_with}
+use Rattle.pt_quick.specs.Quick.{ClaimsIn, CouldBeOf, IsQuick, IsTextAt, source_digest}
+use Rattle.pt_quick.specs.ReadAlike.{HasRead}
 use Rattle.pt_quick.specs.declared.claimed.ClaimedFiles.{ClaimedFiles}
-use Rattle.pt_quick.proofs.Sized.{have_digests, same_paths}
-use Rattle.pt_quick.proofs.Looking.{found_absent, found_claimed, found_unclaimed}
+use Rattle.pt_quick.proofs.Sized.{are_alike, have_digests, same_paths}
+use Rattle.pt_quick.proofs.Looking.{found_absent, found_claimed, found_unclaimed, sought_with}
 use Rattle.pt_tree.specs.Forest.{Dir, File, Forest, Node, Other, file_at, kind_at, kind_of, node_at}
 use Rattle.pt_tree.specs.Name.{AreNames}
 use Rattle.pt_tree.specs.Path.{Path}
@@ -93,11 +94,12 @@ claims_none root object path claimed at told = λ r there inventory stands utf8.
 
 -- what it claims could be the rows of the object
 pub could_be : (object : ScannedObject) (text : List ℕ) (o : Option ClaimedFiles)
-    → option_map (λ files. files.rows) o ≡ claimed_in object.algorithm text object.rows.now → IfSome o (λ files. CouldBe object files.rows)
+    → option_map (λ files. files.rows) o ≡ claimed_in object.algorithm text object.rows.now → IfSome o (λ files. CouldBeOf object files.rows)
 could_be object text None is = tt
 could_be object text (Some files) is = record {
-  paths = same_paths object.algorithm text object.rows.now files.rows (sym is);
+  paths_are = same_paths object.algorithm text object.rows.now files.rows (sym is);
   digests = have_digests object.algorithm text object.rows.now files.rows (sym is);
+  alike = λ read own. are_alike object.algorithm text read object.rows.now files.rows own (sym is);
 }
 
 -- ---- what is asked for a comparison
@@ -144,26 +146,28 @@ abbrev pub Finds : Option Forest → Option Forest → ScannedObject → List Ro
 Finds source root object rows finding =
     ForSome source (λ s. ForSome root (λ r. IsFound (sought_with object rows s) (inside r object.to.now) finding))
 
-module _ (source root next : Option Forest) (object : ScannedObject) (order : part_in_order (row_paths object.rows.now) ≡ true) (same : next ≡ root) where
+module _ (source root next : Option Forest) (object : ScannedObject) (order : part_in_order (row_paths object.rows.now) ≡ true)
+    (own : ForSome source (λ s. All (HasRead (source_digest object s)) object.rows.now)) (same : next ≡ root) where
   pub tells_claimed : (rows : List Row) (k : Kind) (result : Result Comparison Fault) → IsSeen root object.to.now (Some k) → ClaimsIn root object (Some rows)
-      → CouldBe object rows → IfOk result (Finds source next object rows) → IfOk result (Tells source root object)
+      → CouldBeOf object rows → IfOk result (Finds source next object rows) → IfOk result (Tells source root object)
   unfolding ClaimsIn
   tells_claimed rows k result seen claims could is =
       IfOk-weaker result (Finds source next object rows) (Tells source root object)
       (λ finding all s told r there.
-      found_claimed object order s (inside r object.to.now) rows finding (claims r there) could (some_there r object.to.now k (seen r there))
+      found_claimed object order s (inside r object.to.now) (own s told) rows finding (claims r there) could (some_there r object.to.now k (seen r there))
       (all s told r (same ∙ there))) is
 
   pub tells_unclaimed : (k : Kind) (result : Result Comparison Fault) → IsSeen root object.to.now (Some k) → ClaimsIn root object None
-      → HaveDigests object.algorithm object.rows.now → IfOk result (Finds source next object object.rows.now) → IfOk result (Tells source root object)
+      → IfOk result (Finds source next object object.rows.now) → IfOk result (Tells source root object)
   unfolding ClaimsIn
-  tells_unclaimed k result seen claims digests is =
+  tells_unclaimed k result seen claims is =
       IfOk-weaker result (Finds source next object object.rows.now) (Tells source root object)
       (λ finding all s told r there.
-      found_unclaimed object order s (inside r object.to.now) finding (claims r there) digests (some_there r object.to.now k (seen r there))
+      found_unclaimed object order s (inside r object.to.now) (own s told) finding (claims r there) (some_there r object.to.now k (seen r there))
       (all s told r (same ∙ there))) is
 
-pub tells_absent : (source root : Option Forest) (object : ScannedObject) → part_in_order (row_paths object.rows.now) ≡ true → IsSeen root object.to.now None
-    → HaveDigests object.algorithm object.rows.now → Tells source root object found.Absent
-tells_absent source root object order seen digests = λ s told r there.
-    found_absent object order s (inside r object.to.now) digests (none_there r object.to.now (seen r there))
+pub tells_absent : (source root : Option Forest) (object : ScannedObject) → part_in_order (row_paths object.rows.now) ≡ true
+    → ForSome source (λ s. All (HasRead (source_digest object s)) object.rows.now) → IsSeen root object.to.now None
+    → Tells source root object found.Absent
+tells_absent source root object order own seen = λ s told r there.
+    found_absent object order s (inside r object.to.now) (own s told) (none_there r object.to.now (seen r there))

@@ -1,21 +1,20 @@
 -- A walk by lengths comes to the same directories, with the same verdicts, and the same comes of each object.
 use Rattle.std.proofs.Common.{◌≡◌, ◌<◌, ◌^◌, ◌+◌, ℕ, List, [], ◌∷◌, ◌++◌, true, false, refl, sym, ◌∙◌, ap, length, map, nat_lt, suc, zero}
 use Rattle.std.specs.Prelude.{◌||◌, ◌&&◌, Bool, cond, Err, None, Ok, Option, Result, Some, nat_le}
-use Rattle.std.specs.Option.{option_and_then, option_map}
-use Rattle.std.specs.Str.{bytes_eq}
+use Rattle.std.specs.Option.{option_map}
 use Rattle.std.proofs.lemmas.List.{map-append}
 use Rattle.std.proofs.lemmas.List.Elements.{All-head, All-tail}
 use Rattle.pt_name.specs.Identifying.{identifier_at}
 use Rattle.pt_name.specs.declared.identifying.Refusal.{Refusal}
 use Rattle.pt_object.specs.FilePaths.{File as CarriedFile}
 use Rattle.pt_plan.specs.Items.{Interior, Named, PairtreeObject, Skip, Verdict, cause_of, encapsulated, gathered_from, is_too_deep, item_of}
-use Rattle.pt_plan.specs.Items.{items, ours, outcome, outcome_by, verdict_by_finding, verdict_by_identifier, verdict_by_visit, verdict_on_candidate, verdict_on_object}
+use Rattle.pt_plan.specs.Items.{items, ours, outcome, outcome_by, verdict_by_finding, verdict_by_identifier}
+use Rattle.pt_plan.specs.Items.{verdict_by_visit, verdict_on_candidate, verdict_on_object}
 use Rattle.pt_name.specs.Share.{Portion, takes, tells_at}
 use Rattle.pt_plan.specs.Job.{Job, form_of, reach_of}
 use Rattle.pt_plan.specs.Store.{is_prefix, pairtree_root, prefix_file, prefix_in, prefix_of, sites_in_root, sites_of, version_file}
-use Rattle.pt_tree.specs.Forest.{Dir, File, Forest, Node, Other, as_dir, dir, dir_at, file, find, listing_of, node_at, none, other}
+use Rattle.pt_tree.specs.Forest.{Dir, File, Forest, Node, Other, dir, dir_at, file, find, listing_of, none, other}
 use Rattle.pt_tree.specs.Path.{Path, joined}
-use Rattle.pt_tree.proofs.Names.{name_itself}
 use Rattle.pt_walk.specs.Left.{entries_from}
 use Rattle.pt_walk.specs.Limits.{Bounds}
 use Rattle.pt_walk.specs.Object.{Entry, bad_or, entries, entries_in, entry_cause, files, first_bad, without_shorties}
@@ -25,38 +24,40 @@ use Rattle.pt_walk.specs.declared.cause.Cause.{Cause}
 use Rattle.pt_walk.specs.declared.cause.Cause.TheVariants as cause
 use Rattle.pt_walk.specs.declared.site.Finding.{Finding}
 use Rattle.pt_walk.specs.declared.site.Finding.TheVariants as finding
-use Rattle.pt_quick.specs.Measured.{lengths_of, measured, text_of_file}
+use Rattle.pt_quick.specs.DepthLaws.{node_measured}
+use Rattle.pt_quick.specs.DepthMeasured.{dir_at-measured, find-measured, is_dir-measured, is_file-measured}
+use Rattle.pt_quick.specs.LengthsOf.{listing-lengths, node_lengths}
+use Rattle.pt_quick.specs.Measured.{lengths_of, text_of_file}
 use Rattle.pt_quick.specs.SitesMeasured.{AreShort, StoreStays, file_seen, item_seen, limits_seen, object_seen}
 use Rattle.pt_quick.specs.SitesMeasured.{outcome_seen, site_seen, store_seen, verdict_seen, visit_seen}
-use Rattle.pt_quick.proofs.TreesMeasured.{find-measured, is_dir-measured, is_file-measured, listing-lengths}
-use Rattle.pt_quick.proofs.TreesMeasured.{node_at-measured, node_lengths, node_measured, text_of_carried}
+use Rattle.pt_quick.proofs.LengthTexts.{text_of_carried}
 
 -- ---- the top
 
--- what stands elsewhere than at the folder's first name is found as it was
-find_apart : (longest : ℕ) (r n : List ℕ) (f : Forest) → bytes_eq r n ≡ false → find (measured longest (r ∷ []) f) n ≡ find f n
-find_apart longest r n f apart = find-measured longest r [] f n ∙ ap (λ t. cond t (option_map (node_measured longest []) (find f n)) (find f n)) apart
+-- what is read there is read of files alone
+good_by : (longest : ℕ) (o : Option Node) → is_prefix (option_map (node_measured longest 0 []) o) ≡ is_prefix o
+good_by longest None = refl
+good_by longest (Some (File b)) = refl
+good_by longest (Some (Dir d)) = refl
+good_by longest (Some Other) = refl
+
+prefix_by : (longest : ℕ) (o : Option Node) → prefix_in (option_map (node_measured longest 0 []) o) ≡ prefix_in o
+prefix_by longest None = refl
+prefix_by longest (Some (File b)) = refl
+prefix_by longest (Some (Dir d)) = refl
+prefix_by longest (Some Other) = refl
 
 pub store_stays : StoreStays
 store_stays = record {
   store = λ longest store i.
-      is_file-measured longest (pairtree_root ∷ []) store (version_file ∷ []) i && is_dir-measured longest (pairtree_root ∷ []) store (pairtree_root ∷ []) i;
-  good = λ longest store. ap is_prefix (find_apart longest pairtree_root prefix_file store refl);
-  prefix = λ longest store. ap prefix_in (find_apart longest pairtree_root prefix_file store refl);
+      is_file-measured longest 1 store (version_file ∷ []) i && is_dir-measured longest 1 store (pairtree_root ∷ []) i;
+  good = λ longest store. ap is_prefix (find-measured longest 0 store prefix_file) ∙ good_by longest (find store prefix_file);
+  prefix = λ longest store. ap prefix_in (find-measured longest 0 store prefix_file) ∙ prefix_by longest (find store prefix_file);
 }
 
--- the folder itself holds the lengths of its files
-folder_seen : (longest : ℕ) (r : List ℕ) (f : Forest) → dir_at (measured longest (r ∷ []) f) (r ∷ []) ≡ option_map (lengths_of longest) (dir_at f (r ∷ []))
-folder_seen longest r f = ap (option_and_then as_dir) (node_at-measured longest (r ∷ []) (Dir f) (r ∷ []))
-    ∙ by (bytes_eq r r) (name_itself r) (node_at (Dir f) (r ∷ []))
-  where
-    by : (t : Bool) → t ≡ true → (o : Option Node) → option_and_then as_dir (option_map (λ x. cond t (node_measured longest [] x) x) o)
-        ≡ option_map (lengths_of longest) (option_and_then as_dir o)
-    by true is None = refl
-    by true is (Some (File b)) = refl
-    by true is (Some (Dir d)) = refl
-    by true is (Some Other) = refl
-    by false is o = absurd (cc)
+-- the pairtree itself holds the lengths of its files
+folder_seen : (longest : ℕ) (r : List ℕ) (f : Forest) → dir_at (store_seen longest f) (r ∷ []) ≡ option_map (lengths_of longest) (dir_at f (r ∷ []))
+folder_seen longest r f = dir_at-measured longest 1 f (r ∷ [])
 
 -- ---- the sites
 

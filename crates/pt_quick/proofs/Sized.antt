@@ -1,7 +1,7 @@
 -- What is claimed are digests of the algorithm, for the paths of the rows.
 use Rattle.std.proofs.Common.{◌≡◌, ◌*◌, ℕ, List, [], ◌∷◌, ◌++◌, Bool, true, false, refl, sym, ◌∙◌, ap, subst, append-nil, arith}
 use Rattle.std.specs.Prelude.{All, cond, length, Ok, Err, Option, Some, None, Result}
-use Rattle.std.specs.Option.{option_and_then, option_map, unwrap_or}
+use Rattle.std.specs.Option.{option_and_then, unwrap_or}
 use Rattle.std.specs.Result.{result_ok}
 use Rattle.std.specs.Str.{bytes_eq}
 use Rattle.std.proofs.lemmas.List.Elements.{All-nil, All-push}
@@ -18,7 +18,9 @@ use Rattle.pt_object.specs.Rows.{row_of}
 use Rattle.pt_object.specs.VersionState.{state_in}
 use Rattle.pt_object.specs.declared.algorithm.Algorithm.{Algorithm}
 use Rattle.pt_object.specs.declared.rows.Row.{Row}
-use Rattle.pt_quick.specs.Claimed.{Claimed, claimed_all, claimed_in, claims_after, no_claims, with_items, with_list, with_member, with_text}
+use Rattle.pt_quick.specs.Claimed.{Claimed, claimed_all, claimed_in, claims_after, fits, no_claims, with_items, with_list, with_member, with_text}
+use Rattle.pt_quick.specs.ReadAlike.{HasRead, ReadAlike}
+use Rattle.pt_quick.proofs.Alike.{claimed_alike}
 
 -- ---- what is read in hex
 
@@ -87,33 +89,44 @@ paths_push : (front : List Row) (row : Row) (later : List Path) → row_paths (f
 paths_push [] row later = refl
 paths_push (x ∷ front) row later = ap (λ (l : List Path). x.path ∷ l) (paths_push front row later)
 
-rows_claimed : (algorithm : Algorithm) (claims : Claimed) (front rows all : List Row) → AreSized algorithm claims
-    → All (λ row. IsDigest algorithm row.digest) front → claimed_all claims front rows ≡ Some all
+rows_claimed : (algorithm : Algorithm) (claims known : Claimed) (front rows all : List Row) → AreSized algorithm claims
+    → All (λ row. IsDigest algorithm row.digest) front → claimed_all claims known front rows ≡ Some all
     → AreRows algorithm all (row_paths front ++ row_paths rows)
-rows_claimed algorithm claims front [] all sized are is =
+rows_claimed algorithm claims known front [] all sized are is =
     let same : front ≡ all = cc in
     subst (λ (l : List Row). AreRows algorithm l (row_paths front ++ [])) same
     (record { paths_are = sym (append-nil (row_paths front)); digests = are })
-rows_claimed algorithm claims front (row ∷ rows) all sized are is =
-    by (claims (joined row.path)) refl is (λ digest now. rows_claimed algorithm claims (front ++ row_of row.path digest row.length ∷ []) rows all sized now)
+rows_claimed algorithm claims known front (row ∷ rows) all sized are is =
+    by (claims (joined row.path)) refl is
+    (λ digest. rows_claimed algorithm claims (with_text row.digest (Some digest) known) (front ++ row_of row.path digest row.length ∷ []) rows all sized)
   where
-    by : (o : Option (List ℕ)) → claims (joined row.path) ≡ o
-        → option_and_then (λ claimed. claimed_all claims (front ++ claimed ∷ []) rows) (option_map (λ digest. row_of row.path digest row.length) o) ≡ Some all
-        → ((digest : List ℕ) → All (λ row. IsDigest algorithm row.digest) (front ++ row_of row.path digest row.length ∷ [])
-        → claimed_all claims (front ++ row_of row.path digest row.length ∷ []) rows ≡ Some all
-        → AreRows algorithm all (row_paths (front ++ row_of row.path digest row.length ∷ []) ++ row_paths rows))
-        → AreRows algorithm all (row_paths front ++ row.path ∷ row_paths rows)
-    by None told h later = absurd (cc)
-    by (Some digest) told h later =
-        subst (AreRows algorithm all) (paths_push front (row_of row.path digest row.length) (row_paths rows))
-        (later digest (All-push (λ row. IsDigest algorithm row.digest) front (row_of row.path digest row.length) are (sized (joined row.path) digest told)) h)
+    Later : List ℕ → Type 0
+    Later digest = All (λ row. IsDigest algorithm row.digest) (front ++ row_of row.path digest row.length ∷ [])
+        → claimed_all claims (with_text row.digest (Some digest) known) (front ++ row_of row.path digest row.length ∷ []) rows ≡ Some all
+        → AreRows algorithm all (row_paths (front ++ row_of row.path digest row.length ∷ []) ++ row_paths rows)
+
+    on : (digest : List ℕ) (t : Bool) → IsDigest algorithm digest
+        → cond t (claimed_all claims (with_text row.digest (Some digest) known) (front ++ row_of row.path digest row.length ∷ []) rows) None ≡ Some all
+        → Later digest → AreRows algorithm all (row_paths front ++ row.path ∷ row_paths rows)
+    on digest false one is later = absurd (cc)
+    on digest true one is later =
+        let mine : Row = row_of row.path digest row.length in
+        subst (AreRows algorithm all) (paths_push front mine (row_paths rows))
+        (later (All-push (λ row. IsDigest algorithm row.digest) front mine are one) is)
+
+    by : (o : Option (List ℕ)) → claims (joined row.path) ≡ o → option_and_then (λ digest. cond (fits known digest row.digest)
+        (claimed_all claims (with_text row.digest (Some digest) known) (front ++ row_of row.path digest row.length ∷ []) rows) None) o ≡ Some all
+        → ((digest : List ℕ) → Later digest) → AreRows algorithm all (row_paths front ++ row.path ∷ row_paths rows)
+    by None told is later = absurd (cc)
+    by (Some digest) told is later = on digest (fits known digest row.digest) (sized (joined row.path) digest told) is (later digest)
 
 -- the rows that an inventory claims have their paths, and digests of its algorithm
 rows_in : (algorithm : Algorithm) (state : Option Members) (rows all : List Row)
-    → option_and_then (λ state. claimed_all (claims_after algorithm state no_claims) [] rows) state ≡ Some all → AreRows algorithm all (row_paths rows)
+    → option_and_then (λ state. claimed_all (claims_after algorithm state no_claims) no_claims [] rows) state ≡ Some all
+    → AreRows algorithm all (row_paths rows)
 rows_in algorithm None rows all is = absurd (cc)
 rows_in algorithm (Some state) rows all is =
-    rows_claimed algorithm (claims_after algorithm state no_claims) [] rows all
+    rows_claimed algorithm (claims_after algorithm state no_claims) no_claims [] rows all
     (sized_after algorithm state no_claims (λ text digest h. absurd (cc))) (All-nil (λ row. IsDigest algorithm row.digest)) is
 
 pub same_paths : (algorithm : Algorithm) (inventory : List ℕ) (rows all : List Row) → claimed_in algorithm inventory rows ≡ Some all
@@ -123,3 +136,15 @@ same_paths algorithm inventory rows all is = (rows_in algorithm (state_in (unwra
 pub have_digests : (algorithm : Algorithm) (inventory : List ℕ) (rows all : List Row) → claimed_in algorithm inventory rows ≡ Some all
     → All (λ row. IsDigest algorithm row.digest) all
 have_digests algorithm inventory rows all is = (rows_in algorithm (state_in (unwrap_or (read inventory) null)) rows all is).digests
+
+-- and those with one of these digests were read alike
+alike_in : (algorithm : Algorithm) (read : Path → List ℕ) (state : Option Members) (rows all : List Row) → All (HasRead read) rows
+    → option_and_then (λ state. claimed_all (claims_after algorithm state no_claims) no_claims [] rows) state ≡ Some all → ReadAlike read all
+alike_in algorithm read None rows all own is = absurd (cc)
+alike_in algorithm read (Some state) rows all own is =
+    claimed_alike read (claims_after algorithm state no_claims) no_claims [] rows all (λ digest. refl)
+    (All-nil (λ row. None ≡ Some (read row.path))) own is
+
+pub are_alike : (algorithm : Algorithm) (inventory : List ℕ) (read : Path → List ℕ) (rows all : List Row) → All (HasRead read) rows
+    → claimed_in algorithm inventory rows ≡ Some all → ReadAlike read all
+are_alike algorithm inventory digest rows all own is = alike_in algorithm digest (state_in (unwrap_or (read inventory) null)) rows all own is

@@ -1,9 +1,9 @@
 -- The digests that an inventory claims for the files of an object.
-use Rattle.std.specs.Prelude.{ℕ, cond, List, [], ◌∷◌, ◌++◌, Option, None, Some}
+use Rattle.std.specs.Prelude.{ℕ, Bool, true, cond, List, [], ◌∷◌, ◌++◌, Option, None, Some}
 use Rattle.std.specs.Cmp.Lexicographic.{slice_cmp}
 use Rattle.std.specs.Global.{Vec}
 use Rattle.std.specs.Map.{lookup}
-use Rattle.std.specs.Option.{option_and_then, option_map, unwrap_or}
+use Rattle.std.specs.Option.{option_and_then, option_map_or, unwrap_or}
 use Rattle.std.specs.Ordering.{is_eq, nat_cmp}
 use Rattle.std.specs.Str.{bytes_eq}
 use Rattle.serde_json.specs.Data.{Data, Items, Members, item, member, no_items, no_members, null}
@@ -58,22 +58,30 @@ claims_after algorithm no_members claims = claims
 claims_after algorithm (member key paths state) claims =
     claims_after algorithm state (with_member algorithm key paths claims)
 
--- the row with the digest that is claimed for its path
-abbrev pub claimed_row : Claimed → Row → Option Row
-claimed_row claims row =
-    option_map (λ digest. row_of row.path digest row.length) (claims (joined row.path))
+-- by the digests that are claimed for files, those of what was read of them
+abbrev pub HeldDigests : Type 0
+HeldDigests = List (List ℕ × List ℕ)
 
--- so with each of these rows, behind those that have theirs
-abbrev pub claimed_all : Claimed → List Row → List Row → Option (List Row)
-claimed_all claims front [] = Some front
-claimed_all claims front (row ∷ rows) =
-    option_and_then (λ claimed. claimed_all claims (front ++ claimed ∷ []) rows)
-    (claimed_row claims row)
+-- the one that is held for each, if one is
+abbrev pub read_at : HeldDigests → Claimed
+read_at entries = λ claimed. lookup (λ held. is_eq (slice_cmp nat_cmp claimed held)) entries
 
--- the rows with the digests that an inventory claims for their paths in its state, if it does for all
+-- what is read of a file fits what was read of another with the digest that is claimed for it, if there was one
+abbrev pub fits : Claimed → List ℕ → List ℕ → Bool
+fits known claimed digest = option_map_or (λ other. bytes_eq other digest) (known claimed) true
+
+-- each of these rows with the digest that is claimed for its path, behind those that have theirs, where all with one digest were read alike
+abbrev pub claimed_all : Claimed → Claimed → List Row → List Row → Option (List Row)
+claimed_all claims known front [] = Some front
+claimed_all claims known front (row ∷ rows) =
+    option_and_then (λ digest. cond (fits known digest row.digest)
+    (claimed_all claims (with_text row.digest (Some digest) known) (front ++ row_of row.path digest row.length ∷ []) rows)
+    None) (claims (joined row.path))
+
+-- the rows with the digests that an inventory claims for their paths in its state, if it does for all, and all with one of these were read alike
 abbrev pub claimed_in : Algorithm → List ℕ → List Row → Option (List Row)
 claimed_in algorithm inventory rows =
-    option_and_then (λ state. claimed_all (claims_after algorithm state no_claims) [] rows)
+    option_and_then (λ state. claimed_all (claims_after algorithm state no_claims) no_claims [] rows)
     (state_in (unwrap_or (read inventory) null))
 
 -- these rows with the digests of others, one for each

@@ -7,6 +7,7 @@ use Rattle.pt_compare.specs.Marks.{inside}
 use Rattle.pt_compare.specs.declared.difference.Comparison.{Comparison}
 use Rattle.pt_compare.specs.declared.difference.Comparison.TheVariants.{Absent, Same}
 use Rattle.pt_compare.specs.declared.scanned.ScannedObject.{ScannedObject}
+use Rattle.pt_object.specs.Algorithm.{digest_of}
 use Rattle.pt_object.specs.Distinct.{content_of_row, distinct}
 use Rattle.pt_object.specs.FilePaths.{row_paths}
 use Rattle.pt_object.specs.HexDigest.{IsDigest}
@@ -15,6 +16,7 @@ use Rattle.pt_object.specs.Object.{stored_files}
 use Rattle.pt_object.specs.declared.algorithm.Algorithm.{Algorithm}
 use Rattle.pt_object.specs.declared.rows.Row.{Row}
 use Rattle.pt_quick.specs.Claimed.{claimed_in}
+use Rattle.pt_quick.specs.ReadAlike.{HasRead, ReadAlike}
 use Rattle.pt_tree.specs.Forest.{Forest}
 use Rattle.pt_tree.specs.Path.{Path}
 use Rattle.pt_tree.specs.Name.{AreNames}
@@ -22,46 +24,78 @@ use Rattle.pt_tree.specs.PathOrder.{part_in_order}
 use Rattle.pt_tree.specs.Tree.{Bytes, Tree, tree_of}
 use Rattle.pt_walk.specs.Left.{bytes_at}
 
--- the object that is sought where these are its rows, of a store whose source's tree this is
-abbrev pub sought_with : ScannedObject → List Row → Forest → Sought
-sought_with object rows source = record {
-  algorithm = object.algorithm;
-  text_with = λ meta. inventory_text object.id.now rows meta object.algorithm;
-  stored = stored_files rows (λ path. bytes_at source (object.from.now ++ path));
+-- the object that is sought where these are its rows, of this identifier, and these the bytes of its files
+abbrev pub sought_by : Algorithm → List ℕ → List Row → (Path → List ℕ) → Sought
+sought_by algorithm id rows bytes = record {
+  algorithm = algorithm;
+  text_with = λ meta. inventory_text id rows meta algorithm;
+  stored = stored_files rows bytes;
 }
 
 -- each digest is one of the algorithm
 abbrev pub HaveDigests : Algorithm → List Row → Type 0
 HaveDigests algorithm rows = All (λ row. IsDigest algorithm row.digest) rows
 
--- an object's rows come in the order of their paths, with digests of its algorithm, and its contents are theirs
-pub record AreScanned (object : ScannedObject) : Type 0 where
-  pub contents : object.contents.now ≡ map content_of_row (distinct object.rows.now)
-  pub order : part_in_order (row_paths object.rows.now) ≡ true
-  pub digests : HaveDigests object.algorithm object.rows.now
+-- the digest of what is read at each path
+abbrev pub read_digest : Algorithm → (Path → List ℕ) → Path → List ℕ
+read_digest algorithm bytes path = digest_of algorithm (bytes path)
 
--- with their digests these could be the object's rows
-pub record CouldBe (object : ScannedObject) (rows : List Row) : Type 0 where
-  pub paths : row_paths rows ≡ row_paths object.rows.now
-  pub digests : HaveDigests object.algorithm rows
+-- with their digests these could be the rows of an object with these logical paths and bytes
+pub record CouldBe (algorithm : Algorithm) (paths : List Path) (bytes : Path → List ℕ) (rows : List Row) : Type 0 where
+  pub paths_are : row_paths rows ≡ paths
+  pub digests : HaveDigests algorithm rows
+  pub alike : ReadAlike (read_digest algorithm bytes) rows
 
--- just the object stands there, if its files have some digests
-pub record IsAlike (object : ScannedObject) (source : Forest) (t : Tree) : Type 0 where
+-- just the object with these logical paths and bytes stands there, if its files have some digests
+pub record IsAlikeOf (algorithm : Algorithm) (id : List ℕ) (paths : List Path) (bytes : Path → List ℕ)
+    (t : Tree) : Type 0 where
   pub rows : List Row
-  pub could : CouldBe object rows
-  pub stands : IsObject (sought_with object rows source) t
+  pub could : CouldBe algorithm paths bytes rows
+  pub stands : IsObject (sought_by algorithm id rows bytes) t
 
--- with some digests of its files this is so
-pub record IsFoundWith (object : ScannedObject) (source : Forest) (t : Tree) (finding : Comparison) : Type 0 where
+-- with some digests of its files this is found
+pub record IsFoundWith (algorithm : Algorithm) (id : List ℕ) (paths : List Path) (bytes : Path → List ℕ)
+    (t : Tree) (finding : Comparison) : Type 0 where
   pub rows : List Row
-  pub could : CouldBe object rows
-  pub found : IsFound (sought_with object rows source) t finding
+  pub could : CouldBe algorithm paths bytes rows
+  pub found : IsFound (sought_by algorithm id rows bytes) t finding
 
 -- what is found: `Same` just where the object is alike, `Absent` just where nothing stands, and else what differs, with some digests
-pub record IsQuick (object : ScannedObject) (source : Forest) (t : Tree) (finding : Comparison) : Type 0 where
-  pub same : (finding ≡ Same) ↔ IsAlike object source t
+pub record IsQuickOf (algorithm : Algorithm) (id : List ℕ) (paths : List Path) (bytes : Path → List ℕ)
+    (t : Tree) (finding : Comparison) : Type 0 where
+  pub same : (finding ≡ Same) ↔ IsAlikeOf algorithm id paths bytes t
   pub absent : (finding ≡ Absent) ↔ (t [] ≡ None)
-  pub found : IsFoundWith object source t finding
+  pub found : IsFoundWith algorithm id paths bytes t finding
+
+-- the bytes of an object's files, of a store whose source's tree this is
+abbrev pub source_bytes : ScannedObject → Forest → Path → List ℕ
+source_bytes object source = λ path. bytes_at source (object.from.now ++ path)
+
+-- the digest of what this source's tree has at each path of an object
+abbrev pub source_digest : ScannedObject → Forest → Path → List ℕ
+source_digest object source = read_digest object.algorithm (source_bytes object source)
+
+-- an object's rows come in the order of their paths, with the digests of what the source has there, where it tells, and its contents are theirs
+pub record AreScanned (source : Option Forest) (object : ScannedObject) : Type 0 where
+  pub contents : object.contents.now ≡ map content_of_row (distinct object.rows.now)
+  pub order : part_in_order (row_paths object.rows.now) ≡ true
+  pub digests : ForSome source (λ s. All (HasRead (source_digest object s)) object.rows.now)
+
+-- with their digests these could be an object's rows, whatever was read of its files
+pub record CouldBeOf (object : ScannedObject) (rows : List Row) : Type 0 where
+  pub paths_are : row_paths rows ≡ row_paths object.rows.now
+  pub digests : HaveDigests object.algorithm rows
+  pub alike : (read : Path → List ℕ) → All (HasRead read) object.rows.now → ReadAlike read rows
+
+-- just the object stands there, if its files have some digests
+abbrev pub IsAlike : ScannedObject → Forest → Tree → Type 0
+IsAlike object source t =
+    IsAlikeOf object.algorithm object.id.now (row_paths object.rows.now) (source_bytes object source) t
+
+-- what is found of an object
+abbrev pub IsQuick : ScannedObject → Forest → Tree → Comparison → Type 0
+IsQuick object source t finding =
+    IsQuickOf object.algorithm object.id.now (row_paths object.rows.now) (source_bytes object source) t finding
 
 -- the inventory in the version's folder, if one that is a text stands there, claims this for the object's files, whose names are names
 abbrev pub ClaimsAt : ScannedObject → Tree → Option (List Row) → Type 0

@@ -1,19 +1,20 @@
 -- What a walk meets in a store that is seen by lengths.
-use Rattle.std.specs.Prelude.{◌≡◌, ◌<◌, ◌^◌, ℕ, List, [], ◌∷◌, length, map}
+use Rattle.std.specs.Prelude.{◌≡◌, ◌<◌, ◌^◌, ℕ, List, length, map}
 use Rattle.std.specs.List.{All}
 use Rattle.pt_object.specs.FilePaths.{File}
 use Rattle.pt_plan.specs.Items.{Fails, Holds, Interior, Item, Named, Outcome, PairtreeObject, Skip, Verdict, items, outcome}
 use Rattle.pt_plan.specs.Job.{Job}
-use Rattle.pt_plan.specs.Store.{has_prefix, is_store, pairtree_root, prefix_of, sites_of}
+use Rattle.pt_plan.specs.Store.{has_prefix, is_store, prefix_of, sites_of}
 use Rattle.pt_tree.specs.Forest.{Forest}
 use Rattle.pt_walk.specs.Limits.{Bounds}
 use Rattle.pt_walk.specs.Object.{entries, files}
 use Rattle.pt_walk.specs.Sites.{Deep, Elsewhere, Listed, Past, Reach, Site, Visit}
-use Rattle.pt_quick.specs.Measured.{lengths_of, measured, text_of_file}
+use Rattle.pt_quick.specs.ByDepth.{measured}
+use Rattle.pt_quick.specs.Measured.{lengths_of, text_of_file}
 
--- a store of which the files in its pairtree are seen by lengths
+-- a store of which all files but those at its top are seen by lengths
 abbrev pub store_seen : ℕ → Forest → Forest
-store_seen longest store = measured longest (pairtree_root ∷ []) store
+store_seen longest store = measured longest 1 store
 
 -- how a directory on the way is met there
 abbrev pub visit_seen : ℕ → Visit → Visit

@@ -7,10 +7,11 @@ ghost use Rattle.serde_json.specs.View.{members_view, view};
 ghost use Rattle.pt_object.specs.Distinct.{content_of_row, distinct};
 ghost use Rattle.pt_object.specs.FilePaths.{row_paths};
 ghost use Rattle.pt_object.specs.VersionState.{state_in};
-ghost use Rattle.pt_quick.specs.Claimed.{claimed_all, claimed_at, claimed_in};
+ghost use Rattle.pt_quick.specs.Claimed.{claimed_all, claimed_at, claimed_in, no_claims};
 ghost use Rattle.pt_tree.specs.Name.{AreNames};
 
 use crate::claims::{Claims, claims_in};
+use crate::readings::Readings;
 use pt_object::{Algorithm, Contents, Row, Rows};
 use pt_tree::{MemoryFault, Name};
 use serde_json::{Map, Value};
@@ -26,8 +27,8 @@ pub struct ClaimedFiles {
 }
 
 /// The files of an object with the digests that an inventory has for their paths in its state
-/// (OCFL 1.1, "Versions"); None where it has none of this algorithm for one of them, or isn't JSON.
-/// `Memory` where a growth was refused.
+/// (OCFL 1.1, "Versions"). None where it has none of this algorithm for one of them, has one digest
+/// for two whose rows have different ones, or isn't JSON. `Memory` where a growth was refused.
 pub fn claimed_rows(
     alloc: Global,
     inventory: &str,
@@ -88,14 +89,15 @@ fn state_of(inventory: &Value) -> Option<&Map<String, Value>>
 }
 
 // The rows with the digests that are claimed for their paths, and their contents; None where for
-// one of them none is.
+// one of them none is, or where two with one of these digests were read as different files: what
+// stands for both holds only one of them.
 fn rows_with(
     alloc: Global,
     claims: &Claims,
     rows: &[Row],
 ) -> Result<Option<ClaimedFiles>, MemoryFault>
     ensures rows { IfOk result (λ claimed. option_map (λ files. files.rows) claimed
-        ≡ claimed_all (claimed_at claims.now) [] rows.now) }
+        ≡ claimed_all (claimed_at claims.now) no_claims [] rows.now) }
     ensures contents { IfOk result (λ claimed. IfSome claimed (λ files. files.contents
         ≡ map content_of_row (distinct files.rows))) }
 {
@@ -103,11 +105,15 @@ fn rows_with(
         rows: Rows::new(alloc),
         contents: Contents::new(alloc),
     };
+    let mut readings = Readings::new(alloc);
     for row in rows {
         let text = row.path.join()?;
         let Some(digest) = claims.get(text.as_slice()) else {
             return Ok(None);
         };
+        if !readings.note(digest, &row.digest)? {
+            return Ok(None);
+        }
         files.rows.push(&row.path, digest, row.length)?;
         files.contents.note(digest, &row.path)?;
     }

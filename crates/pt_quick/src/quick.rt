@@ -3,20 +3,20 @@
 ghost use Rattle.std.specs.Prelude.{◌≡◌, ◌++◌, [], All, IfOk, IfSome, Some, cond, map};
 ghost use Rattle.std.specs.Option.{ForSome, option_map};
 ghost use Rattle.std.specs.String.{string_bytes};
-ghost use Rattle.pt_compare.specs.Beside.{IsKnown, IsKnownToStand};
+ghost use Rattle.pt_compare.specs.Beside.{IsKnown};
 ghost use Rattle.pt_compare.specs.Found.{HaltsAs, version_inventory};
 ghost use Rattle.pt_compare.specs.Marks.{inside};
 ghost use Rattle.pt_compare.specs.Meeting.{both};
 ghost use Rattle.pt_compare.specs.Root.{KeepsRoot, Stands};
 ghost use Rattle.pt_object.specs.Distinct.{content_of_row, distinct};
 ghost use Rattle.pt_plan.specs.TurnStart.{is_dir_kind};
-ghost use Rattle.pt_quick.specs.Quick.{AreScanned, ClaimsIn, CouldBe, IsQuick, IsTextAt};
+ghost use Rattle.pt_quick.specs.Quick.{AreScanned, ClaimsIn, CouldBeOf, IsQuick, IsTextAt};
 ghost use Rattle.pt_tree.specs.Failures.{IsCounted};
 ghost use Rattle.pt_tree.specs.Source.{CanOpen, IsSeen, tree_in};
 ghost use Rattle.pt_tree.specs.declared.kind.Kind.TheVariants as kind;
 
 use crate::claimed::{ClaimedFiles, claimed_rows};
-use pt_compare::{Comparison, ScannedObject, compare, find_kind, open_standing, rest_of};
+use pt_compare::{Comparison, ScannedObject, compare, look_at_place, open_standing, rest_of};
 use pt_object::WellKnownName;
 use pt_plan::Fault;
 use pt_plan::kinds::is_dir;
@@ -36,7 +36,7 @@ pub fn look_over<S: Source, R: Source>(
     root: &mut R,
     object: &ScannedObject<'_>,
 ) -> Result<Comparison, Fault>
-    requires rows { AreScanned object.now }
+    requires rows { AreScanned (tree_in (S.told source.old)) object.now }
     requires files { All (λ row. CanOpen (S.told source.old) (object.now.from.now ++ row.path))
         object.now.rows.now }
     requires known { IsKnown (tree_in (S.told source.old)) (tree_in (R.told root.old)) object.now }
@@ -48,7 +48,7 @@ pub fn look_over<S: Source, R: Source>(
         (λ s. ForSome (tree_in (R.told root.old))
         (λ r. IsQuick object.now s (inside r object.now.to.now) finding))) }
 {
-    let here = at_place(alloc, root, object).map_err(Fault::of_dest)?;
+    let here = look_at_place(alloc, root, object).map_err(Fault::of_dest)?;
     let Some(kind) = here else {
         return Ok(Comparison::Absent);
     };
@@ -72,26 +72,6 @@ pub fn look_over<S: Source, R: Source>(
     }
 }
 
-// The kind of what stands at an object's place, if anything does; what is known of it isn't looked
-// at.
-fn at_place<R: Source>(
-    alloc: Global,
-    root: &mut R,
-    object: &ScannedObject<'_>,
-) -> Result<Option<Kind>, TreeFault>
-    requires { IsKnownToStand (tree_in (R.told root.old)) object.now }
-    ensures kind { IfOk result (λ here. IsSeen (tree_in (R.told root.old)) object.now.to.now here) }
-    ensures same { R.told root.new ≡ R.told root.old }
-    ensures failures { IsCounted (R.failed root.old) (R.failed root.new) result }
-    ensures keeps { R.keeps root.old root.new }
-{
-    if object.stands {
-        Ok(Some(Kind::Dir))
-    } else {
-        find_kind(alloc, root, object.to)
-    }
-}
-
 // What the inventory in the version's folder claims for the files of an object, at whose place
 // something of this kind stands.
 fn claimed_at<R: Source>(
@@ -106,7 +86,7 @@ fn claimed_at<R: Source>(
     ensures claims { IfOk result (λ claimed. ClaimsIn (tree_in (R.told root.old)) object.now
         (option_map (λ files. files.rows) claimed)) }
     ensures could { IfOk result (λ claimed. IfSome claimed
-        (λ files. CouldBe object.now files.rows)) }
+        (λ files. CouldBeOf object.now files.rows)) }
     ensures contents { IfOk result (λ claimed. IfSome claimed (λ files. files.contents
         ≡ map content_of_row (distinct files.rows))) }
 {

@@ -1,5 +1,5 @@
 //! The digests that an inventory claims for the files of an object, as docs/REFERENCE.md lays out
-//! an inventory. The digests are those of the text `abc` and of no bytes.
+//! an inventory. The digests are those of the text `abc` and of no bytes, and one of zeros alone.
 use pt_object::{Algorithm, Hasher, Rows};
 use pt_quick::{ClaimedFiles, claimed_rows};
 use pt_tree::NamePath;
@@ -9,8 +9,10 @@ const ABC: &str = "ba7816bf8f01cfea414140de5dae2223b00361a396177a9cb410ff61f2001
 
 const NONE: &str = "e3b0c44298fc1c149afbf4c8996fb92427ae41e4649b934ca495991b7852b855";
 
-// The paths of an object's files, each with its length.
-const FILES: &[(&str, u64)] = &[("a", 3), ("b/c", 3), ("b/d", 0)];
+const ZERO: &str = "0000000000000000000000000000000000000000000000000000000000000000";
+
+// The paths of an object's files, each with its length and what was read of it.
+const FILES: &[(&str, u64, &str)] = &[("a", 3, "x"), ("b/c", 3, "x"), ("b/d", 0, "y")];
 
 // A state, and the digests that are claimed for the three files.
 struct Case {
@@ -28,8 +30,20 @@ const CASES: &[Case] = &[
     // A file more is none of the object's.
     Case {
         algorithm: Algorithm::Sha256,
-        state: "{\"ba7816bf8f01cfea414140de5dae2223b00361a396177a9cb410ff61f20015ad\":[\"a\",\"b/c\",\"b/d\",\"e\"]}",
-        claimed: Some([ABC, ABC, ABC]),
+        state: "{\"ba7816bf8f01cfea414140de5dae2223b00361a396177a9cb410ff61f20015ad\":[\"a\",\"b/c\",\"e\"],\"e3b0c44298fc1c149afbf4c8996fb92427ae41e4649b934ca495991b7852b855\":[\"b/d\"]}",
+        claimed: Some([ABC, ABC, NONE]),
+    },
+    // Two files that were read as the same may have two.
+    Case {
+        algorithm: Algorithm::Sha256,
+        state: "{\"0000000000000000000000000000000000000000000000000000000000000000\":[\"b/d\"],\"ba7816bf8f01cfea414140de5dae2223b00361a396177a9cb410ff61f20015ad\":[\"a\"],\"e3b0c44298fc1c149afbf4c8996fb92427ae41e4649b934ca495991b7852b855\":[\"b/c\"]}",
+        claimed: Some([ABC, NONE, ZERO]),
+    },
+    // Two that were read as different ones have one.
+    Case {
+        algorithm: Algorithm::Sha256,
+        state: "{\"ba7816bf8f01cfea414140de5dae2223b00361a396177a9cb410ff61f20015ad\":[\"a\",\"b/c\",\"b/d\"]}",
+        claimed: None,
     },
     // A file of the object has no digest.
     Case {
@@ -61,13 +75,14 @@ const CASES: &[Case] = &[
     },
 ];
 
-// The rows of the files, with a digest that is none of theirs.
+// The rows of the files, with the digests of what was read of them.
 fn rows_of(alloc: Global) -> Option<Rows> {
-    let digest = Hasher::start(Algorithm::Sha512).end();
     let mut rows = Rows::new(alloc);
-    for (path, length) in FILES {
+    for (path, length, read) in FILES {
         let path = NamePath::of_text(alloc, path.as_bytes()).ok()?;
-        rows.push(&path, &digest, *length).ok()?;
+        let mut hasher = Hasher::start(Algorithm::Sha512);
+        hasher.feed_bytes(read.as_bytes());
+        rows.push(&path, &hasher.end(), *length).ok()?;
     }
     Some(rows)
 }
@@ -85,7 +100,7 @@ fn claims_of(alloc: Global, case: &Case, rows: &Rows) -> Option<Option<ClaimedFi
 
 // Each row has its digest and the length of its file.
 fn are_claimed(alloc: Global, rows: &Rows, claimed: &[&str; 3]) -> bool {
-    for (i, (_, length)) in FILES.iter().enumerate() {
+    for (i, (_, length, _)) in FILES.iter().enumerate() {
         let Some(row) = rows.get(i) else {
             return false;
         };

@@ -1,4 +1,4 @@
-use Rattle.pt_quick.proofs.TreesMeasured.{kind_at-measured}
+use Rattle.pt_quick.specs.DepthMeasured.{kind_at-measured}
 use Rattle.pt_quick.proofs.laws.kinds_stay.Goals as goal
 
 pub returns : goal.returns

@@ -1,4 +1,4 @@
-use Rattle.pt_quick.proofs.TreesMeasured.{listing_at-measured}
+use Rattle.pt_quick.specs.DepthMeasured.{listing_at-measured}
 use Rattle.pt_quick.proofs.laws.listings_stay.Goals as goal
 
 pub returns : goal.returns

@@ -1,4 +1,4 @@
-use Rattle.pt_quick.proofs.TreesMeasured.{text_of_carried}
+use Rattle.pt_quick.proofs.LengthTexts.{text_of_carried}
 use Rattle.pt_quick.proofs.laws.long_files_are_marked.Goals as goal
 
 pub returns : goal.returns
