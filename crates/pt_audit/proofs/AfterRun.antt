@@ -12,6 +12,7 @@ use Rattle.pt_audit.specs.AuditLaws.{AuditAfterRunIsSound, HasRun, IsLeftBy, Non
 use Rattle.pt_audit.specs.Auditing.{Finds, IsFoundOf, Leads, Next, Nothing, Passes, TellsOf, Told, sought}
 use Rattle.pt_audit.specs.Counting.{counts_with}
 use Rattle.pt_audit.specs.declared.counts.Counts.{Counts}
+use Rattle.pt_audit.specs.declared.compare_by.CompareBy.TheVariants.{Bytes}
 use Rattle.pt_compare.proofs.Compared.{stored_order}
 use Rattle.pt_compare.proofs.Exact.{standing_object_is_the_same}
 use Rattle.pt_compare.specs.Described.{IsGiven}
@@ -282,7 +283,8 @@ none_taken job source root k item none is = by (is_taken job root (take k (items
 
 -- the counts of what was told stay where each finding is that it stands
 one_told : {job : Job} {source root : Forest} {item : Item} {lines : List Line} {more : List ℕ} {counts later : Counts}
-    → ((finding : Comparison) → IsFoundOf job source root item finding → finding ≡ found.Same) → TellsOf job source root item lines more counts later
+    → ((finding : Comparison) → IsFoundOf Bytes job source root item finding → finding ≡ found.Same)
+    → TellsOf Bytes job source root item lines more counts later
     → (later.absent ≡ counts.absent) × (later.differs ≡ counts.differs)
 one_told same Leads = (refl, refl)
 one_told same (Passes at why) = (refl, refl)
@@ -292,7 +294,7 @@ one_told {counts = counts} same (Finds finding it) = by finding (same finding it
     by f is = (ap (λ (g : Comparison). (counts_with g counts).absent) is, ap (λ (g : Comparison). (counts_with g counts).differs) is)
 
 all_told : (job : Job) (source root : Forest) (start : Tree) → HasRun job source start root → NoneIsTaken job source (root_in start)
-    → {n : ℕ} {text : List ℕ} {counts : Counts} → Told job source root n text counts → (counts.absent ≡ 0) × (counts.differs ≡ 0)
+    → {n : ℕ} {text : List ℕ} {counts : Counts} → Told Bytes job source root n text counts → (counts.absent ≡ 0) × (counts.differs ≡ 0)
 all_told job source root start run none Nothing = (refl, refl)
 all_told job source root start run none (Next {n = n} item told there tells) =
     let before = all_told job source root start run none told in

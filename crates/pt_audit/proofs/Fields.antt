@@ -7,8 +7,8 @@ use Rattle.pt_state.proofs.Whole.{holds_nothing_else}
 made_of_fields : (auditor : Auditor) → IsMadeOfFields auditor
 made_of_fields a =
     let beside = holds_its_fields a.beside in record {
-      fields = record { alloc = a.alloc; survey = a.survey; beside = beside.0; counts = a.counts };
-      all = λ i. record { alloc = a.alloc; survey = a.survey; beside = beside.1 i; counts = a.counts };
+      fields = record { alloc = a.alloc; by = a.by; survey = a.survey; beside = beside.0; counts = a.counts };
+      all = λ i. record { alloc = a.alloc; by = a.by; survey = a.survey; beside = beside.1 i; counts = a.counts };
       state = holds_nothing_else a.survey.state;
     }
 

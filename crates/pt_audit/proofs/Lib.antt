@@ -4,6 +4,7 @@ pub mod ToldObject
 pub mod ToldSteps
 pub mod Failing
 pub mod Sound
+mod Held
 pub mod Layouts
 pub mod Saying
 mod Pacing

@@ -42,6 +42,7 @@ use Rattle.pt_audit.specs.RootReader.{
   AreAlikeAtHand,
   AreFew,
   BehindAt,
+  CanFollow,
   Follows,
   HasBegun,
   HoldsItsFields,
@@ -56,6 +57,7 @@ use Rattle.pt_audit.specs.RootReader.{
   ReadBehind,
   ReadBeside,
   Saw,
+  StaysClosed,
 }
 use Rattle.pt_audit.specs.declared.root_reader.RootReader.{RootReader}
 use Rattle.pt_invariant.proofs.source.InPairtree.{file_in_pairtree}
@@ -409,6 +411,34 @@ follows_told source source' root root' b r what saw told same stays under_way it
     there (phase.Carrying object (stage.Read zero)) is paced = absurd (true≢false (sym is))
     there (phase.Carrying object (stage.Read (suc bytes))) is paced = absurd (true≢false (sym is))
     there _ is paced = absurd (true≢false (sym is))
+
+-- where nothing is read beside and nothing is held to be alike, the root is read as far as anything was seen
+pub closed_paced : (source root : Option Reading) (old new : RootReader) (r : Running) → StaysClosed old new → IsPaced source root new r
+unfolding AreAlike AreFew
+closed_paced source root old new r closed = by r.phase
+  where
+    alike : (contents : List Content) → AreAlike source root new contents
+    alike contents = subst (λ (n : ℕ). All (λ content. StandsAlike (tree_in source) (tree_in root) (in_root new.place) (in_content content.path)
+        (in_pairtree (new.from ++ content.path))) (take n contents)) (sym closed.0) (All-nil _)
+
+    few : (contents : List Content) → new.alike ≤ length contents
+    few contents = let none = closed.0 in omega (arith, none)
+
+    beside : (P : Type 0) → OnTrue new.reads P
+    beside P = subst (λ (x : Bool). OnTrue x P) (sym closed.1) tt
+
+    by : (p : Phase) → PacedAt source root new p r.state
+    by (phase.Carrying object stage.Scan) = (closed.1, alike r.state.contents, inl (few r.state.contents))
+    by (phase.Carrying object (stage.Read bytes)) = (alike r.state.contents, few r.state.contents, beside (ReadBeside source root new object r.state []))
+    by (phase.Carrying object stage.Line) = (closed.1, alike r.state.contents)
+    by _ = closed.1
+
+-- and it can be read on
+pub closed_can : (root : Option Reading) (old new : RootReader) → StaysClosed old new → CanFollow root old → CanFollow root new
+closed_can root old new closed can = record {
+  folder = subst (λ (p : Path). Stands (tree_in root) (p, kind.Dir)) (sym closed.2) can.folder;
+  reads = subst (λ (x : Bool). OnTrue x (Reads root)) (sym closed.1) tt;
+}
 
 -- what a step came to
 pub at_sight : {source root : Option Reading} {b : RootReader} {what : SurveyEvent} {r : Running} → Saw source root b what r → IsAt source what r

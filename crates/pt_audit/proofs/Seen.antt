@@ -1,6 +1,6 @@
 -- What the turns that look at a store tell is the line of the item that they end, where nothing stands at its place.
 use Rattle.std.proofs.Common.{◌≡◌, ℕ, suc, Bool, true, false, List, [], ◌∷◌, ◌++◌, refl, ap, sym, ◌∙◌, subst, cond, length, append-nil}
-use Rattle.std.specs.Prelude.{Option, None, Some, Ok, slice_get, nat_lt, unwrap_or}
+use Rattle.std.specs.Prelude.{All, Option, None, Some, Ok, slice_get, nat_lt, unwrap_or}
 use Rattle.std.proofs.lemmas.Bool.{or_left, or_right, true≢false}
 use Rattle.pt_name.specs.Place.{place_of}
 use Rattle.pt_name.specs.Share.{tells_at}
@@ -24,7 +24,8 @@ use Rattle.pt_plan.specs.Run.{Counts, Held}
 use Rattle.pt_plan.specs.Store.{is_store, pairtree_of, prefix_of, sites_of}
 use Rattle.pt_plan.specs.Turn.{Next, Make, Place, Scan, Start, Walk}
 use Rattle.pt_object.proofs.ObjectScripts.{in_order_apart}
-use Rattle.pt_object.specs.FilePaths.{File, row_paths}
+use Rattle.pt_object.specs.Algorithm.{digest_of}
+use Rattle.pt_object.specs.FilePaths.{File, paths_of, row_paths}
 use Rattle.pt_tree.specs.PathOrder.{part_in_order}
 use Rattle.pt_object.specs.Object.{bytes_in, rows_of, stored_files}
 use Rattle.pt_object.specs.declared.rows.Row.{Row}
@@ -87,8 +88,9 @@ use Rattle.pt_invariant.proofs.source.InObject.{site_itself}
 use Rattle.pt_invariant.proofs.source.InPairtree.{file_in_pairtree, pairtree_proper}
 use Rattle.pt_invariant.proofs.source.ReadsOn.{reads_block}
 use Rattle.pt_invariant.proofs.source.WalksKeep.{deep_next, done_at_shorty, elsewhere_next, none_at_end, none_at_entry, past_next}
+use Rattle.pt_audit.proofs.Held.{files_hold, rows_read}
 use Rattle.pt_audit.specs.EmptyDest.{bare}
-use Rattle.pt_audit.specs.Surveying.{HasAtHand, Leads, Nothing, Sees, Skips, SeesItem, is_looking, is_of_survey, passed}
+use Rattle.pt_audit.specs.Surveying.{HasAtHand, HaveOwnDigests, Leads, Nothing, Sees, Skips, SeesItem, is_looking, is_of_survey, passed}
 
 -- ---- each kind of item
 
@@ -226,6 +228,26 @@ module _ {job : Job} (source : Forest) (object : Object) (site : List Frame) {ro
       ∙ own_stored rows there (in_order_apart (row_paths rows) order)
       ∙ ap (λ (l : List File). stored_files rows (bytes_in l)) (files_are source object site there (pairtree_proper source store proper) it (λ k d h. refl))
 
+  bytes_there : part_in_order (row_paths rows) ≡ true
+      → All (λ path. bytes_at source (in_pairtree (path_of_source object site ++ path)) ≡ bytes_in (files (entries (object_at source object site).inside)) path)
+      (paths_of (files (entries (object_at source object site).inside)))
+  bytes_there order =
+      let own = files (entries (object_at source object site).inside) in
+      subst (λ (held : Path → List ℕ). All (λ path. held path ≡ bytes_in own path) (paths_of own))
+      (λ i path. unwrap_or (sym (file_in_pairtree source (path_of_source object site ++ path) store) i) [])
+      (files_hold rows there own (files_are source object site there (pairtree_proper source store proper) it (λ k d h. refl))
+      (in_order_apart (row_paths rows) order))
+
+  read_there : HaveOwnDigests job source (path_of_source object site) rows
+  read_there =
+      let own = files (entries (object_at source object site).inside) in
+      let front : entries (object_at source object site).inside ≡ it.front = it.all ∙ append-nil it.front in
+      let held = files_are source object site there (pairtree_proper source store proper) it (λ k d h. refl) in
+      subst (λ (held : Path → List ℕ). All (λ (row : Row). row.digest ≡ digest_of job.algorithm (held row.path)) rows)
+      (λ i path. unwrap_or (sym (file_in_pairtree source (path_of_source object site ++ path) store) i) [])
+      (rows_read job.algorithm there rows
+      (it.rows_are ∙ ap (λ l. rows_of job.algorithm (files l)) (sym front) ∙ ap (rows_of job.algorithm) (sym held)))
+
 pub has_at_hand : {job : Job} {past : History} {s : Reading} {prefix : List ℕ} {object : Object} {held : Held}
     → HeldAt job past (phase.Carrying object stage.Line) held → SourcePart job past (phase.Carrying object stage.Line) prefix held s
     → HasAtHand job s.tree past.count object held
@@ -243,6 +265,8 @@ has_at_hand {job} {past} {s} {object} {held} at part =
       whole = comes_whole it;
       rows = it.rows_are ∙ ap (λ l. rows_of job.algorithm (files l)) (sym front);
       stored = stored_there s.tree object site part.at.0.store part.proper it at.rows.order;
+      bytes = bytes_there s.tree object site part.at.0.store part.proper it at.rows.order;
+      digests = read_there s.tree object site part.at.0.store part.proper it;
       site = ap trail_path (site_itself object held.trail part.at.1.at_site);
       at = ap (path_of_source object) (site_itself object held.trail part.at.1.at_site);
       place = part.at.1.stands.place;

@@ -7,6 +7,7 @@ use Rattle.pt_audit.specs.AuditLaws.{SoundAuditMeansAllStand, StandAmong}
 use Rattle.pt_audit.specs.Auditing.{Finds, IsFoundOf, Leads, Next, Nothing, Passes, TellsOf, Told, sought}
 use Rattle.pt_audit.specs.Counting.{one_more}
 use Rattle.pt_audit.specs.declared.counts.Counts.{Counts}
+use Rattle.pt_audit.specs.declared.compare_by.CompareBy.TheVariants.{Bytes}
 use Rattle.pt_invariant.proofs.source.InPairtree.{some_same}
 use Rattle.pt_compare.specs.Found.{IsObject}
 use Rattle.pt_compare.specs.Marks.{inside}
@@ -34,8 +35,8 @@ some_more n is = absurd (omega (arith, is))
 
 -- where none is counted as absent or as differing, none was before, and of an object it was found that it stands
 nothing_wrong : {job : Job} {source root : Forest} {item : Item} {lines : List Line} {more : List ℕ} {counts later : Counts}
-    → TellsOf job source root item lines more counts later → later.absent ≡ 0 → later.differs ≡ 0
-    → (counts.absent ≡ 0) × (counts.differs ≡ 0) × IfDone lines (IsFoundOf job source root item found.Same)
+    → TellsOf Bytes job source root item lines more counts later → later.absent ≡ 0 → later.differs ≡ 0
+    → (counts.absent ≡ 0) × (counts.differs ≡ 0) × IfDone lines (IsFoundOf Bytes job source root item found.Same)
 nothing_wrong Leads absent differs = (absent, differs, tt)
 nothing_wrong (Passes at why) absent differs = (absent, differs, tt)
 nothing_wrong (Finds found.Same it) absent differs = (absent, differs, it)
@@ -44,12 +45,12 @@ nothing_wrong {counts = counts} (Finds (found.Differs difference) it) absent dif
 
 -- so an item with an object stands
 item_stands : (job : Job) (source root : Forest) (item : Item) (id : List ℕ) (object : PairtreeObject) (files : List File) → item.verdict ≡ Named id object
-    → outcome job.limits object ≡ Holds files → IfDone (line_by_verdict job item.path false item.verdict) (IsFoundOf job source root item found.Same)
+    → outcome job.limits object ≡ Holds files → IfDone (line_by_verdict job item.path false item.verdict) (IsFoundOf Bytes job source root item found.Same)
     → IsObject (sought job id files) (inside root (in_root (place_of job.tuples id)))
 item_stands job source root item id object files named whole it = by found_is
   where
     P : Type 0
-    P = IsFoundOf job source root item found.Same
+    P = IsFoundOf Bytes job source root item found.Same
 
     found_is : P
     found_is = subst (λ (o : Outcome). IfDone (line_by_outcome item.path id object (place_of job.tuples id) o ∷ []) P) whole
@@ -67,7 +68,7 @@ item_stands job source root item id object files named whole it = by found_is
 
 -- ---- all items
 
-stand : {job : Job} {source root : Forest} {n : ℕ} {text : List ℕ} {counts : Counts} → Told job source root n text counts → counts.absent ≡ 0
+stand : {job : Job} {source root : Forest} {n : ℕ} {text : List ℕ} {counts : Counts} → Told Bytes job source root n text counts → counts.absent ≡ 0
     → counts.differs ≡ 0 → StandAmong job source root (λ k. k < n)
 stand Nothing absent differs k item id object files less is named whole = absurd (omega (arith, less))
 stand {job} {source} {root} (Next {n = n} item told there tells) absent differs k item' id object files less is named whole =

@@ -1,14 +1,20 @@
 -- What a step of an audit promises, by what its calls promise.
 use Rattle.std.proofs.Common.{◌≡◌, ◌≢◌, ◌∙◌, ℕ, Bool, ap, arith, refl, subst, sym}
 use Rattle.std.specs.Prelude.{IfErr, Option, Result, Ok, Err}
-use Rattle.pt_audit.specs.AuditSteps.{AuditStates, FailsRightly, KeepsAll, StepsOn, TellsObject, TellsStep}
-use Rattle.pt_audit.specs.Auditing.{StopsSeen, StopsUnderWay}
+use Rattle.pt_audit.specs.AuditSteps.{AuditStates, FailsRightly, KeepsAll, LeavesRoot, SeesStep, StepsOn, StopsSeen, StopsUnderWay, TellsObject, TellsStep}
 use Rattle.pt_audit.specs.Failing.{AuditSays, BlamesRightly, FailsAs, TellFails, failures}
 use Rattle.pt_audit.specs.Growing.{sides_on}
+use Rattle.pt_audit.specs.RootReader.{Saw}
+use Rattle.pt_audit.specs.SurveySteps.{MovesOn}
+use Rattle.pt_audit.specs.Surveying.{Steps}
 use Rattle.pt_audit.specs.declared.auditing.Auditor.{Auditor}
 use Rattle.pt_audit.specs.declared.auditing.StepReport.{StepReport}
+use Rattle.pt_audit.specs.declared.compare_by.CompareBy.{CompareBy}
+use Rattle.pt_audit.specs.declared.compare_by.CompareBy.TheVariants.{Bytes, Lengths}
 use Rattle.pt_audit.specs.declared.counts.Counts.{Counts}
+use Rattle.pt_audit.specs.declared.survey.SurveyEvent.{SurveyEvent}
 use Rattle.pt_move.specs.Counting.{Counts as Blames}
+use Rattle.pt_move.specs.Running.{Running}
 use Rattle.pt_plan.specs.DeviceStates.{Failures}
 use Rattle.pt_plan.specs.Turn.{HasFailed}
 use Rattle.pt_plan.specs.declared.fault.Fault.{Fault}
@@ -106,7 +112,7 @@ beside_log _ a b a' b' count it = absurd it
 
 pub tells_err : {auditor : Auditor} {old new : AuditStates} (answer : Result StepReport Fault) (why : Fault) → answer ≡ Err why
     → TellFails {T = StepReport} (Err why) old.failures new.failures → AuditSays auditor.survey.state.job (tree_in old.source) (tree_in old.root) why
-    → StopsSeen old.source (tree_in old.root) old.log auditor.counts auditor.survey new.log → TellsStep auditor old new answer
+    → StopsSeen auditor old new.log → TellsStep auditor old new answer
 tells_err {auditor} {old} {new} answer why is fails says stops = subst (TellsStep auditor old new) (sym is) (record {
   on = λ first it. tt;
   follows = tt;
@@ -119,7 +125,7 @@ tells_err {auditor} {old} {new} answer why is fails says stops = subst (TellsSte
 
 pub tells_no_object : {auditor : Auditor} {old new : AuditStates} (answer : Result Counts Fault) (why : Fault) → answer ≡ Err why
     → FailsAs {T = Counts} (Err why) old.failures new.failures
-    → StopsSeen old.source (tree_in old.root) old.log auditor.counts auditor.survey new.log → TellsObject auditor old new answer
+    → StopsSeen auditor old new.log → TellsObject auditor old new answer
 tells_no_object {auditor} {old} {new} answer why is fails stops = subst (TellsObject auditor old new) (sym is) (record {
   on = λ first it. tt;
   still = tt;
@@ -131,9 +137,10 @@ tells_no_object {auditor} {old} {new} answer why is fails stops = subst (TellsOb
 
 pub no_step : {before after : Auditor} {old new : AuditStates} (answer : Result Bool Fault) (why : Fault) → answer ≡ Err why
     → FailsRightly {T = Bool} before.survey.state.job old new (Err why)
-    → StopsUnderWay old.source (tree_in old.root) old.log before.counts before.survey new.log → StepsOn before after old new answer
+    → StopsUnderWay before old new.log → StepsOn before after old new answer
 no_step {before} {after} {old} {new} answer why is fails stops = subst (StepsOn before after old new) (sym is) (record {
   on = λ first it. tt;
+  by = tt;
   steps = tt;
   follows = tt;
   ended = tt;
@@ -141,3 +148,40 @@ no_step {before} {after} {old} {new} answer why is fails stops = subst (StepsOn 
   blamed = fails;
   stops = stops;
 })
+
+-- nor was one made of the survey, or the root couldn't be read as far
+pub sees_none : {before after : Auditor} {old new : AuditStates} (answer : Result SurveyEvent Fault) (why : Fault) → answer ≡ Err why
+    → FailsRightly {T = SurveyEvent} before.survey.state.job old new (Err why)
+    → StopsUnderWay before old new.log → SeesStep before after old new answer
+sees_none {before} {after} {old} {new} answer why is fails stops = subst (SeesStep before after old new) (sym is) (record {
+  keeps = tt;
+  on = λ count it. tt;
+  saw = tt;
+  blamed = fails;
+  stops = stops;
+})
+
+pub sees_on : {before : Auditor} {old new : AuditStates} (survey : Running) (after : Auditor) (what : SurveyEvent)
+    → after ≡ record before { survey = survey; beside = after.beside }
+    → MovesOn (old.source, old.log) (new.source, new.log) before.survey (λ (w : SurveyEvent). survey) (Ok what)
+    → Steps (tree_in old.source) before.survey survey → Saw new.source new.root after.beside what survey
+    → FailsRightly {T = SurveyEvent} before.survey.state.job old new (Ok what) → SeesStep before after old new (Ok what)
+sees_on {before} {old} {new} survey after what is on steps saw fails =
+    let same : survey ≡ after.survey = sym (ap (λ (a : Auditor). a.survey) is) in record {
+      keeps = record { by = ap (λ (a : Auditor). a.by) is; counts = ap (λ (a : Auditor). a.counts) is };
+      on = subst (λ (r : Running). MovesOn (old.source, old.log) (new.source, new.log) before.survey (λ (w : SurveyEvent). r) (Ok what)) same on;
+      saw = subst (λ (r : Running). Steps (tree_in old.source) before.survey r × Saw new.source new.root after.beside what r) same (steps, saw);
+      blamed = fails;
+      stops = tt;
+    }
+
+-- ---- the root
+
+-- what isn't called is left
+pub root_left : {R : Type 0} (by : CompareBy) (root : R) → LeavesRoot by root root
+root_left Bytes root = tt
+root_left Lengths root = refl
+
+-- by bytes nothing is said of it
+pub root_read : {R : Type 0} (old new : R) (by : CompareBy) → by ≡ Bytes → LeavesRoot by old new
+root_read old new by is = subst (λ (b : CompareBy). LeavesRoot b old new) (sym is) tt

@@ -7,6 +7,7 @@ use Rattle.std.proofs.lemmas.Bool.{true≢false}
 use Rattle.pt_audit.specs.Auditing.{IsSeen, IsUnderWay, CanGoOn, Leads, Next, is_told, Passes, TellsOf, Told, counted, start_over}
 use Rattle.pt_invariant.specs.RunInvariant.{items_through}
 use Rattle.pt_audit.specs.Layout.{IsOfLayout}
+use Rattle.pt_audit.specs.declared.compare_by.CompareBy.{CompareBy}
 use Rattle.pt_audit.specs.declared.counts.Counts.{Counts}
 use Rattle.pt_move.specs.Running.{Running}
 use Rattle.pt_move.proofs.Outcomes.{reading_of}
@@ -79,69 +80,71 @@ put_behind old text more now new told puts = by new (subst (λ o. Appends o new 
     by None puts = absurd puts
     by (Some bytes) puts = ap (λ b. Some b) (puts ∙ append_assoc old text more)
 
-abbrev pub HasTold : Job → Forest → Forest → List ℕ → Option (List ℕ) → ℕ → Counts → Type 0
-HasTold job source root old now n counts = (text : List ℕ) × (now ≡ Some (old ++ text)) × Told job source root n text counts
+abbrev pub HasTold : CompareBy → Job → Forest → Forest → List ℕ → Option (List ℕ) → ℕ → Counts → Type 0
+HasTold by job source root old now n counts = (text : List ℕ) × (now ≡ Some (old ++ text)) × Told by job source root n text counts
 
 -- with what a step saw
-saw_on : (job : Job) (source root : Forest) (old : List ℕ) {here : Phase} {held : Held} (count next : ℕ) (counts : Counts) (skipped : ℕ) {line : Option Line}
-    (now new : Option (List ℕ)) → Sees job source count here held line next → Puts line now new
+saw_on : (by : CompareBy) (job : Job) (source root : Forest) (old : List ℕ) {here : Phase} {held : Held} (count next : ℕ) (counts : Counts) (skipped : ℕ)
+    {line : Option Line} (now new : Option (List ℕ)) → Sees job source count here held line next → Puts line now new
     → skipped ≡ counts.skipped + count_by is_skipped (option_to_list line)
-    → HasTold job source root old now (items_through here count) counts → HasTold job source root old new next (record counts { skipped = skipped })
+    → HasTold by job source root old now (items_through here count) counts
+    → HasTold by job source root old new next (record counts { skipped = skipped })
 unfolding Puts
-saw_on job source root old {here} count next counts skipped now new (SeesNothing looks) puts skips (text, told, lines) = (
+saw_on by job source root old {here} count next counts skipped now new (SeesNothing looks) puts skips (text, told, lines) = (
   text,
   puts ∙ told,
-  subst (λ (n : ℕ). Told job source root count text (record counts { skipped = n })) (same_skips skips)
-      (subst (λ (n : ℕ). Told job source root n text counts) (looking_told here count looks) lines),
+  subst (λ (n : ℕ). Told by job source root count text (record counts { skipped = n })) (same_skips skips)
+      (subst (λ (n : ℕ). Told by job source root n text counts) (looking_told here count looks) lines),
 )
   where
     same_skips : {a b : ℕ} → a ≡ b + 0 → b ≡ a
     same_skips is = omega (arith, is)
-saw_on job source root old {here} count next counts skipped now new (SeesLeads looks it) puts skips (text, told, lines) = (
+saw_on by job source root old {here} count next counts skipped now new (SeesLeads looks it) puts skips (text, told, lines) = (
   text ++ [],
   puts ∙ told ∙ ap (λ t. Some (old ++ t)) (sym (append-nil text)),
-  subst (λ (n : ℕ). Told job source root (suc count) (text ++ []) (record counts { skipped = n })) (same_skips skips)
-      (Next it.item (subst (λ (n : ℕ). Told job source root n text counts) (looking_told here count looks) lines) it.is
-      (subst (λ (l : List Line). TellsOf job source root it.item l [] counts counts) (sym it.lines_are) Leads)),
+  subst (λ (n : ℕ). Told by job source root (suc count) (text ++ []) (record counts { skipped = n })) (same_skips skips)
+      (Next it.item (subst (λ (n : ℕ). Told by job source root n text counts) (looking_told here count looks) lines) it.is
+      (subst (λ (l : List Line). TellsOf by job source root it.item l [] counts counts) (sym it.lines_are) Leads)),
 )
   where
     same_skips : {a b : ℕ} → a ≡ b + 0 → b ≡ a
     same_skips is = omega (arith, is)
-saw_on job source root old {here} count next counts skipped now new (Skips looks at why it) puts skips (text, told, lines) = (
+saw_on by job source root old {here} count next counts skipped now new (Skips looks at why it) puts skips (text, told, lines) = (
   text ++ line_text (Skipped at why),
   put_behind old text (line_text (Skipped at why)) now new told puts,
-  subst (λ (n : ℕ). Told job source root (suc count) (text ++ line_text (Skipped at why)) (record counts { skipped = n }))
+  subst (λ (n : ℕ). Told by job source root (suc count) (text ++ line_text (Skipped at why)) (record counts { skipped = n }))
       (one_more skipped counts.skipped skips)
-      (Next it.item (subst (λ (n : ℕ). Told job source root n text counts) (looking_told here count looks) lines) it.is
-      (subst (λ (l : List Line). TellsOf job source root it.item l (line_text (Skipped at why)) counts (record counts { skipped = counts.skipped + 1 }))
+      (Next it.item (subst (λ (n : ℕ). Told by job source root n text counts) (looking_told here count looks) lines) it.is
+      (subst (λ (l : List Line). TellsOf by job source root it.item l (line_text (Skipped at why)) counts (record counts { skipped = counts.skipped + 1 }))
       (sym it.lines_are) (Passes at why))),
 )
   where
     one_more : (a b : ℕ) → a ≡ b + 1 → b + 1 ≡ a
     one_more a b is = omega (arith, is)
-saw_on job source root old count next counts skipped now new (WasAtHand it) puts skips (text, told, lines) = (
+saw_on by job source root old count next counts skipped now new (WasAtHand it) puts skips (text, told, lines) = (
   text,
   puts ∙ told,
-  subst (λ (n : ℕ). Told job source root (suc count) text (record counts { skipped = n })) (same_skips skips) lines,
+  subst (λ (n : ℕ). Told by job source root (suc count) text (record counts { skipped = n })) (same_skips skips) lines,
 )
   where
     same_skips : {a b : ℕ} → a ≡ b + 0 → b ≡ a
     same_skips is = omega (arith, is)
 
 -- a step of the survey was made
-pub seen_after : (told told' : Option Reading) (source root : Option Forest) (first now new : Option (List ℕ)) (counts : Counts) (before after : Running)
+pub seen_after : {by : CompareBy} (told told' : Option Reading) (source root : Option Forest) (first now new : Option (List ℕ)) (counts : Counts)
+    (before after : Running)
     → tree_in told ≡ source → (is_before_store before.phase ≡ true → is_before_sites after.phase ≡ true)
-    → (it : IsUnderWay told (start_over source root first) now counts before) → GoesOn (told, now) (told', new) it.count before after
-    → IsSeen told' (start_over source root first) new counts after
-seen_after told told' source root first now new counts before after same order it on = record {
+    → (it : IsUnderWay told (start_over by source root first) now counts before) → GoesOn (told, now) (told', new) it.count before after
+    → IsSeen told' (start_over by source root first) new counts after
+seen_after {by} told told' source root first now new counts before after same order it on = record {
   count = on.next;
   is = on.is;
   so_far = λ s e r f old g.
       let told_is = reading_of told (same ∙ e) in
       let saw = on.saw told_is.0 told_is.1 in
       let sees = subst (λ (t : Forest). Sees (job_of before.state.job) t it.count before.phase (held_of before.state []) saw.line on.next) told_is.2 saw.sees in
-      subst (λ (j : own.Job). HasTold (job_of j) s r old new on.next (counted counts after)) (sym on.job)
-      (saw_on (job_of before.state.job) s r old it.count on.next (counted counts before) _ now new sees saw.puts saw.skips (it.so_far s e r f old g));
+      subst (λ (j : own.Job). HasTold by (job_of j) s r old new on.next (counted counts after)) (sym on.job)
+      (saw_on by (job_of before.state.job) s r old it.count on.next (counted counts before) _ now new sees saw.puts saw.skips (it.so_far s e r f old g));
   opened = λ later. subst (λ (j : own.Job). ForSome root (IsOfLayout (job_of j))) (sym on.job)
       (it.opened (was_later (is_before_store before.phase) refl later));
 }
@@ -158,24 +161,25 @@ sites_after (phase.Opening (opening.Prefix _)) other later = later
 sites_after _ other later = later
 
 -- more is to be seen
-pub goes_on : {told : Option Reading} {source root : Option Forest} {first : Option (List ℕ)} (now : Option (List ℕ)) (counts : Counts) (r : Running)
-    (what : SurveyEvent) → sight_at r.phase ≡ what → is_told what ≡ false → IsSeen told (start_over source root first) now counts r
-    → IsUnderWay told (start_over source root first) now counts r
-goes_on now counts r what is more it = record {
+pub goes_on : {by : CompareBy} {told : Option Reading} {source root : Option Forest} {first : Option (List ℕ)} (now : Option (List ℕ)) (counts : Counts)
+    (r : Running) (what : SurveyEvent) → sight_at r.phase ≡ what → is_told what ≡ false → IsSeen told (start_over by source root first) now counts r
+    → IsUnderWay told (start_over by source root first) now counts r
+goes_on {by} now counts r what is more it = record {
   count = it.count;
   is = it.is;
-  so_far = λ s e o f old g. subst (λ (n : ℕ). HasTold (job_of r.state.job) s o old now n (counted counts r)) (sym (told_there r.phase it.count what is more))
+  so_far = λ s e o f old g. subst (λ (n : ℕ). HasTold by (job_of r.state.job) s o old now n (counted counts r)) (sym (told_there r.phase it.count what is more))
       (it.so_far s e o f old g);
   opened = λ later. it.opened (sites_after r.phase (λ store. absurd (true≢false (sym (ap is_told (sym is ∙ store)) ∙ more))) later);
 }
 
-pub goes_on_store : {told : Option Reading} {source root : Option Forest} {first : Option (List ℕ)} (now : Option (List ℕ)) (counts : Counts) (r : Running)
-    → sight_at r.phase ≡ sight.Store → CanGoOn root r → IsSeen told (start_over source root first) now counts r
-    → IsUnderWay told (start_over source root first) now counts r
-goes_on_store now counts r is layout it = record {
+pub goes_on_store : {by : CompareBy} {told : Option Reading} {source root : Option Forest} {first : Option (List ℕ)} (now : Option (List ℕ))
+    (counts : Counts) (r : Running)
+    → sight_at r.phase ≡ sight.Store → CanGoOn root r → IsSeen told (start_over by source root first) now counts r
+    → IsUnderWay told (start_over by source root first) now counts r
+goes_on_store {by} now counts r is layout it = record {
   count = it.count;
   is = it.is;
-  so_far = λ s e o f old g. subst (λ (n : ℕ). HasTold (job_of r.state.job) s o old now n (counted counts r)) (sym (told_store r.phase it.count is))
+  so_far = λ s e o f old g. subst (λ (n : ℕ). HasTold by (job_of r.state.job) s o old now n (counted counts r)) (sym (told_store r.phase it.count is))
       (it.so_far s e o f old g);
   opened = λ later. layout;
 }

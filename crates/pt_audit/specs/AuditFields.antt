@@ -4,13 +4,16 @@ use Rattle.std.specs.Global.{Global}
 use Rattle.pt_audit.specs.RootReader.{BesideFields, beside_of}
 use Rattle.pt_audit.specs.declared.auditing.Auditor.{Auditor}
 use Rattle.pt_audit.specs.declared.counts.Counts.{Counts}
+use Rattle.pt_audit.specs.declared.compare_by.CompareBy.{CompareBy}
 use Rattle.pt_move.specs.Running.{Running}
 use Rattle.pt_state.specs.Fields.{HoldsNothingElse}
 
--- the store, as far as it was seen; what is read of the root beside it; four numbers
+-- by what it compares; the store, as far as it was seen; what is read of the root beside it; four numbers
 pub record AuditFields : Type 0 where
   -- where memory is asked for
   pub alloc : Global
+  -- by what it compares
+  pub by : CompareBy
   -- a run's phase and its state
   pub survey : Running
   -- three paths, two numbers and a block
@@ -20,7 +23,7 @@ pub record AuditFields : Type 0 where
 
 -- the audit with these fields
 abbrev pub auditor_of : AuditFields → Auditor
-auditor_of f = record { alloc = f.alloc; survey = f.survey; beside = beside_of f.beside; counts = f.counts }
+auditor_of f = record { alloc = f.alloc; by = f.by; survey = f.survey; beside = beside_of f.beside; counts = f.counts }
 
 -- it is made of these fields and nothing else, and so is its survey's state of its own
 pub record IsMadeOfFields (auditor : Auditor) : Type 0 where

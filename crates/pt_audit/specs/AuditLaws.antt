@@ -1,7 +1,8 @@
--- What an audit that found nothing wrong says of a root.
+-- What an audit by bytes that found nothing wrong says of a root.
 use Rattle.std.specs.Prelude.{◌≡◌, ◌≢◌, ℕ, true, false, List, Some, slice_get}
 use Rattle.pt_audit.specs.Auditing.{IsAuditLog, IsFoundOf, sought}
 use Rattle.pt_audit.specs.declared.counts.Counts.{Counts}
+use Rattle.pt_audit.specs.declared.compare_by.CompareBy.TheVariants.{Bytes}
 use Rattle.pt_compare.specs.Described.{IsGiven}
 use Rattle.pt_compare.specs.Found.{IsObject}
 use Rattle.pt_compare.specs.Marks.{inside}
@@ -31,7 +32,7 @@ StandAmong job source root Among =
 abbrev pub SoundAuditMeansAllStand : Type 0
 SoundAuditMeansAllStand =
     (job : Job) (source root : Forest) (text : List ℕ) (counts : Counts)
-    → IsAuditLog job source root text counts → counts.absent ≡ 0 → counts.differs ≡ 0
+    → IsAuditLog Bytes job source root text counts → counts.absent ≡ 0 → counts.differs ≡ 0
     → StandAmong job source root (λ k. Unit {0})
 
 -- the storage root is as a run left it that ended well, and that began with this destination
@@ -54,7 +55,7 @@ WhatWasCarriedIsTheSame =
     (job : Job) (source root : Forest) (start : Tree) (k : ℕ) (item : Item) (finding : Comparison)
     → HasRun job source start root
     → slice_get (marked job source (root_in start)) k ≡ Some (item, false)
-    → IsFoundOf job source root item finding → finding ≡ Same
+    → IsFoundOf Bytes job source root item finding → finding ≡ Same
 
 -- no place was taken: neither by what stood in the root before nor by an earlier object
 abbrev pub NoneIsTaken : Job → Forest → Tree → Type 0
@@ -65,4 +66,4 @@ abbrev pub AuditAfterRunIsSound : Type 0
 AuditAfterRunIsSound =
     (job : Job) (source root : Forest) (start : Tree) (text : List ℕ) (counts : Counts)
     → HasRun job source start root → NoneIsTaken job source (root_in start)
-    → IsAuditLog job source root text counts → (counts.absent ≡ 0) × (counts.differs ≡ 0)
+    → IsAuditLog Bytes job source root text counts → (counts.absent ≡ 0) × (counts.differs ≡ 0)

@@ -3,6 +3,7 @@ pub mod AuditLaws
 pub mod AuditSteps
 pub mod Auditing
 pub mod Bounds
+pub mod CompareBy
 pub mod Counting
 pub mod EmptyDest
 pub mod Failing

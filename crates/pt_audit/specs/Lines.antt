@@ -1,5 +1,8 @@
 -- The lines of an audit's log: each one compact JSON object with its keys in byte order, and LF.
 use Rattle.std.specs.Prelude.{ℕ, Bool, cond, List, [], ◌∷◌, ◌++◌, codes}
+use Rattle.pt_audit.specs.declared.counts.Counts.{Counts}
+use Rattle.pt_audit.specs.declared.compare_by.CompareBy.{CompareBy}
+use Rattle.pt_audit.specs.declared.compare_by.CompareBy.TheVariants.{Bytes, Lengths}
 use Rattle.pt_compare.specs.Difference.{why_word}
 use Rattle.pt_compare.specs.declared.difference.Comparison.{Comparison}
 use Rattle.pt_compare.specs.declared.difference.Comparison.TheVariants as finding
@@ -20,22 +23,35 @@ pub record Told : Type 0 where
   pub id : List ℕ
   pub to : Path
 
--- what a line tells: the object stands, nothing stands at its place, it differs there, or the audit ended
+-- what a line tells: the object stands, by its bytes or by names and lengths, nothing stands at its place, it differs there, or the audit ended, of
+-- which by lengths the second is told
 pub data Line : Type 0 where
   Same : Told → Line
+  Alike : Told → Line
   Absent : Told → Line
   Differs : Told → (path : Path) → (why : List ℕ) → Line
   End : (same absent differs skipped : ℕ) → Line
+  QuickEnd : (alike absent differs skipped : ℕ) → Line
 
 -- the word of why an object differs: that it is a twin, or else what is wrong at the path
 abbrev pub why_told : Bool → Why → List ℕ
 why_told twin why = cond twin (codes "twin") (why_word why)
 
--- the line of an object, by whether it is a twin, and what was found at its place
-abbrev pub line_by : Told → Bool → Comparison → Line
-line_by told twin finding.Same = Same told
-line_by told twin finding.Absent = Absent told
-line_by told twin (finding.Differs difference) = Differs told difference.path (why_told twin difference.why)
+-- the line of an object that stands, by what was compared
+abbrev pub standing_by : CompareBy → Told → Line
+standing_by Bytes told = Same told
+standing_by Lengths told = Alike told
+
+-- the line of an object, by what was compared, whether it is a twin, and what was found at its place
+abbrev pub line_by : CompareBy → Told → Bool → Comparison → Line
+line_by by told twin finding.Same = standing_by by told
+line_by by told twin finding.Absent = Absent told
+line_by by told twin (finding.Differs difference) = Differs told difference.path (why_told twin difference.why)
+
+-- the end line, by what was compared, with these counts
+abbrev pub end_by : CompareBy → Counts → Line
+end_by Bytes counts = End counts.same counts.absent counts.differs counts.skipped
+end_by Lengths counts = QuickEnd counts.same counts.absent counts.differs counts.skipped
 
 -- the line as a tree of JSON
 abbrev pub line_tree : Line → Data
@@ -47,6 +63,12 @@ line_tree (Same told) = json.object
     (number_member (codes "files") told.files
     (text_member (codes "id") told.id
     (text_member (codes "to") (joined told.to) no_members)))))))
+line_tree (Alike told) = json.object
+    (text_member (codes "as") (codes "alike")
+    (text_member (codes "at") (joined told.at)
+    (number_member (codes "files") told.files
+    (text_member (codes "id") told.id
+    (text_member (codes "to") (joined told.to) no_members)))))
 line_tree (Absent told) = json.object
     (text_member (codes "as") (codes "absent")
     (text_member (codes "at") (joined told.at)
@@ -64,6 +86,12 @@ line_tree (End same absent differs skipped) = json.object
     (text_member (codes "as") (codes "end")
     (number_member (codes "differs") differs
     (number_member (codes "same") same
+    (number_member (codes "skip") skipped no_members)))))
+line_tree (QuickEnd alike absent differs skipped) = json.object
+    (number_member (codes "absent") absent
+    (number_member (codes "alike") alike
+    (text_member (codes "as") (codes "end")
+    (number_member (codes "differs") differs
     (number_member (codes "skip") skipped no_members)))))
 
 -- the compact text of the line, and LF

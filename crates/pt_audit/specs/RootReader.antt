@@ -3,8 +3,6 @@ use Rattle.std.specs.Prelude.{◌≡◌, ◌≢◌, ◌≤◌, ◌⊎◌, ℕ, z
 use Rattle.std.specs.Bool.{OnTrue}
 use Rattle.std.specs.Global.{Global}
 use Rattle.std.specs.Option.{ForSome}
-use Rattle.pt_audit.specs.Auditing.{IsUnderWay, start_over}
-use Rattle.pt_audit.specs.declared.counts.Counts.{Counts}
 use Rattle.pt_audit.specs.declared.root_reader.RootReader.{RootReader}
 use Rattle.pt_compare.specs.Beside.{StandsAlike}
 use Rattle.pt_compare.specs.Marks.{inside}
@@ -129,6 +127,10 @@ IsBehind source root b r = BehindAt source root b r.phase r.state
 abbrev pub HasBegun : RootReader → Type 0
 HasBegun b = (b.alike ≡ 0) × (b.reads ≡ false) × (b.folder ≡ [])
 
+-- nothing is read beside, and of what was nothing is held to be alike; the folder is as it was
+abbrev pub StaysClosed : RootReader → RootReader → Type 0
+StaysClosed old new = (new.alike ≡ 0) × (new.reads ≡ false) × (new.folder ≡ old.folder)
+
 -- it is at this object, of which nothing was read beside, or at which it was
 pub record IsAtObject (from place : Path) (old new : RootReader) : Type 0 where
   pub from_is : new.from ≡ from
@@ -189,12 +191,6 @@ pub record Follows (source root : Option Reading) (b : RootReader) (r : Running)
 pub record FollowsOn (source root : Option Reading) (b : RootReader) (r : Running) : Type 0 where
   pub follows : Follows source root b r
   pub more : r.phase ≢ phase.End
-
--- nothing was told yet, with these counts
-pub record Begins (source root : Option Reading) (log : Option (List ℕ)) (counts : Counts)
-    (b : RootReader) (r : Running) : Type 0 where
-  pub under_way : IsUnderWay source (start_over (tree_in source) (tree_in root) log) log counts r
-  pub follows : FollowsOn source root b r
 
 -- so it is where a step was made that came to this
 pub record Saw (source root : Option Reading) (b : RootReader) (what : SurveyEvent) (r : Running) : Type 0 where

@@ -7,6 +7,7 @@ use Rattle.std.specs.Prelude.{
   ℕ,
   zero,
   suc,
+  All,
   Bool,
   true,
   false,
@@ -33,8 +34,10 @@ use Rattle.pt_move.specs.Outcome.{HoldsWithinBound, SaysRightly}
 use Rattle.pt_move.specs.Running.{FedUntilEnd, TypeInvariant, Running, run_of}
 use Rattle.pt_move.specs.Unmet.{AreUnmet}
 use Rattle.pt_name.specs.Place.{place_of}
-use Rattle.pt_object.specs.FilePaths.{File}
+use Rattle.pt_object.specs.Algorithm.{digest_of}
+use Rattle.pt_object.specs.FilePaths.{File, paths_of}
 use Rattle.pt_object.specs.Object.{bytes_in, rows_of, stored_files}
+use Rattle.pt_object.specs.declared.rows.Row.{Row}
 use Rattle.pt_plan.specs.Items.{Holds, Item, Named, PairtreeObject, items, outcome}
 use Rattle.pt_plan.specs.Carried.{Marked}
 use Rattle.pt_plan.specs.Job.{Job}
@@ -277,6 +280,11 @@ pub record GoesOn (old new : Option Reading × Option (List ℕ)) (count : ℕ)
 
 -- ---- the object at hand
 
+-- these rows have the digests of what the source has at their paths, below where the object stands in its pairtree
+abbrev pub HaveOwnDigests : Job → Forest → Path → List Row → Type 0
+HaveOwnDigests job source at rows =
+    All (λ row. row.digest ≡ digest_of job.algorithm (bytes_at source (in_pairtree (at ++ row.path)))) rows
+
 -- the item of this number has it: there is no cause against it, and what is held of it are its files, as they stand in the source
 pub record HasAtHand (job : Job) (source : Forest) (count : ℕ) (object : Object) (held : Held) : Type 0 where
   pub item : Item
@@ -288,6 +296,8 @@ pub record HasAtHand (job : Job) (source : Forest) (count : ℕ) (object : Objec
   pub rows : held.rows ≡ rows_of job.algorithm files
   pub stored : stored_files held.rows (λ path. bytes_at source (in_pairtree (inner.at ++ path)))
       ≡ stored_files held.rows (bytes_in files)
+  pub bytes : All (λ path. bytes_at source (in_pairtree (inner.at ++ path)) ≡ bytes_in files path) (paths_of files)
+  pub digests : HaveOwnDigests job source inner.at held.rows
   pub site : item.path ≡ trail_path held.trail
   pub at : inner.at ≡ path_of_source object held.trail
   pub place : object.place ≡ place_of job.tuples object.id

@@ -1,58 +1,61 @@
 //! A whole audit.
 //!
 //! Of what is passed over what is told is a run's line; of an object what was found at its place,
-//! which is so (`IsFoundOf`). The object of each item is told of, also a second one of an
-//! identifier. After a fault the log has got a front of what is told of the first items, or of all
-//! with the end line (`StopsAs`). `audit_objects` is for who has more to tell before the end line:
-//! after all items the log has got just what is told of them (`IsAllTold`), after a fault a front
-//! of what is told of the first (`TellsItems`); and job and prefix are given back (`GivesBack`).
+//! which is so (`IsFoundOf`), by bytes or by lengths (`IsFoundBy`). The object of each item is told
+//! of, also a second one of an identifier. After a fault the log has got a front of what is told of
+//! the first items, or of all with the end line (`StopsAs`). `audit_objects` is for who has more to
+//! tell before the end line: after all items the log has got just what is told of them
+//! (`IsAllTold`), after a fault a front of what is told of the first (`TellsItems`); and the job,
+//! by what it compared, and the prefix are given back (`GivesBack`).
 //!
 //! The limit of turns is met only where it is less than a survey's work, and of what else is in the
 //! destination nothing is refused; that it has ended already is never answered (`AuditSays`). It is
 //! made by steps of a survey, to the survey's end where it answers Ok (`IsMade`); what is held of
 //! the survey after each is what a survey's step says, and beside it an audit holds the fields that
 //! are listed (`AuditFields`). The end line has the counts of the lines.
-ghost use Rattle.std.specs.Prelude.{◌≡◌, IfErr, IfOk, OnErr, OnOk};
-ghost use Rattle.pt_audit.specs.AuditSteps.{FailsRightly, KeepsAll, StepsOn, TellsObject};
-ghost use Rattle.pt_audit.specs.AuditSteps.{TellsStep};
+ghost use Rattle.std.specs.Prelude.{◌≡◌, IfErr, IfOk, OnErr, OnOk, Option};
+ghost use Rattle.pt_audit.specs.AuditSteps.{Begins, FailsRightly, KeepsAll, LeavesRoot, SeesStep};
+ghost use Rattle.pt_audit.specs.AuditSteps.{StepsOn, TellsObject, TellsStep};
 ghost use Rattle.pt_audit.specs.AuditSteps.{audit_states};
 ghost use Rattle.pt_audit.specs.Auditing.{AreUnmetIn, FrontToldAs, GivesBack, HasSeenAll};
-ghost use Rattle.pt_audit.specs.Auditing.{IsFoundAtHand, IsTwinAtHand, LogsAs, StopsUnderWay};
-ghost use Rattle.pt_audit.specs.Auditing.{TellsItems};
+ghost use Rattle.pt_audit.specs.Auditing.{IsFoundAtHand, IsTwinAtHand, LogsAs, TellsItems};
 ghost use Rattle.pt_audit.specs.Auditing.{counted, last_text, start_over};
 ghost use Rattle.pt_audit.specs.declared.counts.Counts.{Counts};
 ghost use Rattle.std.specs.Option.{ForSome};
 ghost use Rattle.std.specs.Io.KnownBytes.{Appends};
 ghost use Rattle.pt_tree.specs.Log.{AppendsFront};
-ghost use Rattle.pt_audit.specs.RootReader.{Begins, Follows, FollowsOn, Saw};
+ghost use Rattle.pt_audit.specs.RootReader.{CanFollow, Follows, FollowsOn, IsBehind, IsPaced};
+ghost use Rattle.pt_audit.specs.RootReader.{Saw};
 ghost use Rattle.pt_audit.specs.Bounds.{IsMade, IsMadeFrom, counts_at_end, counts_in};
-ghost use Rattle.pt_audit.specs.Failing.{AuditSays, BlamesRightly, FailsAs, failures};
+ghost use Rattle.pt_audit.specs.Failing.{AuditSays, BlamesRightly, FailsAs, ReadFailsAs};
+ghost use Rattle.pt_audit.specs.Failing.{failures};
 ghost use Rattle.pt_audit.specs.Layout.{IsOfLayout};
 ghost use Rattle.pt_compare.specs.Root.{KeepsRoot};
-ghost use Rattle.pt_tree.specs.Source.{tree_in};
+ghost use Rattle.pt_tree.specs.Source.{Reading, tree_in};
 ghost use Rattle.pt_state.specs.States.{job_of};
 ghost use Rattle.pt_audit.specs.Growing.{KeepsLog};
-ghost use Rattle.pt_audit.specs.SurveySteps.{MovesOn};
-ghost use Rattle.pt_audit.specs.Surveying.{IsHand, Steps, Surveys, sight_at};
+ghost use Rattle.pt_audit.specs.Surveying.{IsHand, Surveys, sight_at};
 ghost use Rattle.pt_audit.specs.declared.survey.SurveyEvent.TheVariants as sight;
 
-use crate::Counts;
 use crate::layout::check_layout;
 use crate::lines::{end_line, object_line};
 use crate::root_reader::RootReader;
 use crate::survey::{ObjectAtHand, Survey, SurveyEvent};
 use crate::twin::{is_second, skip_prefix};
+use crate::{AuditTask, CompareBy, Counts};
 use pt_compare::{Comparison, ScannedObject, compare};
 use pt_move::{Job, Observer};
 use pt_name::UnmetIdentifiers;
 use pt_plan::Fault;
+use pt_quick::look_over;
 use pt_state::paths::{in_pairtree, in_storage_root};
 use pt_tree::{Log, Source};
 use std::alloc::Global;
 
 /// Holds the storage root that stands against the objects of a Pairtree store: each is compared,
 /// path by path and byte by byte, with what stands at its place, and the log tells of each what was
-/// found.
+/// found. By lengths each is looked over instead, as `look_over` of pt_quick does, and one that
+/// fits is told as alike: so both sources may show no more of a file than the text of its length.
 ///
 /// The store is seen as a run with this job sees it; but each object is compared, also a second one
 /// of an identifier. Of the job's description of the version nothing is compared: moment, user and
@@ -67,32 +70,34 @@ use std::alloc::Global;
 /// nor than a survey's work; after each of them the survey holds no more than a run's bound, and
 /// nothing but a run's fields, and nothing of a comparison is held. While a file of the store is
 /// read for its digest, what stands in the root is read beside it; of a content that isn't alike
-/// both are read once more. A step calls the store at most three times; no clause counts what the
-/// comparison reads.
+/// both are read once more. By lengths nothing is read beside. A step calls the store at most three
+/// times; no clause counts what the comparison reads.
 pub fn audit<S: Source, R: Source, L: Log, O: Observer<Counts>>(
     alloc: Global,
     source: &mut S,
     root: &mut R,
     log: &mut L,
-    job: Job,
+    task: AuditTask,
     observer: &O,
 ) -> Result<AuditCompletion, Fault>
-    ensures ends { LogsAs (job_of job) (tree_in (S.told source.old))
-        (tree_in (R.told root.old)) (L.told log.old) (L.told log.new) (counts_at_end result) }
-    ensures layout { OnOk result (ForSome (tree_in (R.told root.old)) (IsOfLayout (job_of job))) }
+    ensures ends { LogsAs (job_of task.job) (start_over task.by (tree_in (S.told source.old))
+        (tree_in (R.told root.old)) (L.told log.old)) (L.told log.new) (counts_at_end result) }
+    ensures layout { OnOk result (ForSome (tree_in (R.told root.old))
+        (IsOfLayout (job_of task.job))) }
     ensures keeps { KeepsAll S.Source R.Source L.Log (source.old, root.old, log.old)
         (source.new, root.new, log.new) }
     ensures blames { BlamesRightly
         (failures (S.failed source.old) (R.failed root.old) (L.failed log.old))
         (failures (S.failed source.new) (R.failed root.new) (L.failed log.new)) result }
-    ensures says { IfErr result (AuditSays job (tree_in (S.told source.old))
+    ensures says { IfErr result (AuditSays task.job (tree_in (S.told source.old))
         (tree_in (R.told root.old))) }
-    ensures made { IsMade job (tree_in (S.told source.old)) (counts_at_end result) }
+    ensures made { IsMade task.job (tree_in (S.told source.old)) (counts_at_end result) }
     ensures unmet { IfOk result (λ audited.
-        AreUnmetIn job (tree_in (S.told source.old)) audited.unmet) }
+        AreUnmetIn task.job (tree_in (S.told source.old)) audited.unmet) }
 {
-    let audited = audit_objects(alloc, source, root, log, job, observer)?;
-    let counts = tell_audit_end(alloc, audited.counts, log)?;
+    let by = task.by;
+    let audited = audit_objects(alloc, source, root, log, task, observer)?;
+    let counts = tell_audit_end(alloc, by, audited.counts, log)?;
     Ok(AuditCompletion {
         counts,
         unmet: audited.unmet,
@@ -115,6 +120,8 @@ pub struct ObjectsAudit {
     pub counts: Counts,
     /// What it was asked for.
     pub job: Job,
+    /// By what it compared.
+    pub by: CompareBy,
     /// What each identifier of the store begins with.
     pub prefix: String,
     /// The identifiers of the share's list of which it met no object.
@@ -129,38 +136,42 @@ pub fn audit_objects<S: Source, R: Source, L: Log, O: Observer<Counts>>(
     source: &mut S,
     root: &mut R,
     log: &mut L,
-    job: Job,
+    task: AuditTask,
     observer: &O,
 ) -> Result<ObjectsAudit, Fault>
-    ensures ends { TellsItems (job_of job) (start_over (tree_in (S.told source.old))
+    ensures ends { TellsItems (job_of task.job) (start_over task.by (tree_in (S.told source.old))
         (tree_in (R.told root.old)) (L.told log.old)) (L.told log.new) result }
-    ensures given { IfOk result (GivesBack job (tree_in (S.told source.old))) }
-    ensures layout { OnOk result (ForSome (tree_in (R.told root.old)) (IsOfLayout (job_of job))) }
+    ensures given { IfOk result (GivesBack task (tree_in (S.told source.old))) }
+    ensures layout { OnOk result (ForSome (tree_in (R.told root.old))
+        (IsOfLayout (job_of task.job))) }
     ensures keeps { KeepsAll S.Source R.Source L.Log (source.old, root.old, log.old)
         (source.new, root.new, log.new) }
     ensures blames { BlamesRightly
         (failures (S.failed source.old) (R.failed root.old) (L.failed log.old))
         (failures (S.failed source.new) (R.failed root.new) (L.failed log.new)) result }
-    ensures says { IfErr result (AuditSays job (tree_in (S.told source.old))
+    ensures says { IfErr result (AuditSays task.job (tree_in (S.told source.old))
         (tree_in (R.told root.old))) }
-    ensures made { IsMade job (tree_in (S.told source.old)) (counts_in result) }
+    ensures made { IsMade task.job (tree_in (S.told source.old)) (counts_in result) }
     ensures unmet { IfOk result (λ audited.
-        AreUnmetIn job (tree_in (S.told source.old)) audited.unmet) }
+        AreUnmetIn task.job (tree_in (S.told source.old)) audited.unmet) }
 {
+    let AuditTask { job, by } = task;
     let mut auditor = Auditor {
         alloc,
+        by,
         survey: Survey::start(alloc, job),
         beside: RootReader::new(alloc),
         counts: Counts::none(),
     };
     let counts = auditor.go_through(source, root, log, observer)?;
-    Ok(auditor.survey.into_audit(counts))
+    Ok(auditor.survey.into_audit(by, counts))
 }
 
 // An audit between two steps.
 #[derive(Drop)]
 struct Auditor {
     alloc: Global,
+    by: CompareBy,
     // The store, as far as it was seen, and what is read of the root beside it.
     survey: Survey,
     beside: RootReader,
@@ -177,11 +188,11 @@ struct StepReport {
     more: bool,
 }
 
-// What is found of an object, and whether it is told as the difference of a twin.
+/// What is found of an object, and whether it is told as the difference of a twin.
 #[derive(Drop)]
-struct AuditFinding {
-    comparison: Comparison,
-    is_twin: bool,
+pub(crate) struct AuditFinding {
+    pub(crate) comparison: Comparison,
+    pub(crate) is_twin: bool,
 }
 
 impl Auditor {
@@ -194,10 +205,11 @@ impl Auditor {
         log: &mut L,
         observer: &O,
     ) -> Result<Counts, Fault>
-        requires { Begins (S.told source.old) (R.told root.old) (L.told log.old)
-            self.old.counts self.old.beside self.old.survey }
-        ensures ends { IfOk result (λ counts. HasSeenAll (start_over (tree_in (S.told source.old))
-            (tree_in (R.told root.old)) (L.told log.old)) (L.told log.new) counts self.new.survey
+        requires { Begins self.old
+            (audit_states S.Source R.Source L.Log (source.old, root.old, log.old)) }
+        ensures ends { IfOk result (λ counts. HasSeenAll (start_over self.old.by
+            (tree_in (S.told source.old)) (tree_in (R.told root.old)) (L.told log.old))
+            (L.told log.new) counts self.new.survey
             × (self.new.survey.state.job ≡ self.old.survey.state.job)) }
         ensures made { IsMadeFrom (tree_in (S.told source.old)) self.old.survey result }
         ensures keeps { KeepsAll S.Source R.Source L.Log (source.old, root.old, log.old)
@@ -206,8 +218,8 @@ impl Auditor {
             (audit_states S.Source R.Source L.Log (source.old, root.old, log.old))
             (audit_states S.Source R.Source L.Log (source.new, root.new, log.new)) result }
         ensures stops { OnErr result (FrontToldAs (job_of self.old.survey.state.job)
-            (start_over (tree_in (S.told source.old)) (tree_in (R.told root.old)) (L.told log.old))
-            (L.told log.new)) }
+            (start_over self.old.by (tree_in (S.told source.old)) (tree_in (R.told root.old))
+            (L.told log.old)) (L.told log.new)) }
     {
         loop {
             let more = self.go_on(source, root, log)?;
@@ -241,10 +253,53 @@ impl Auditor {
         ensures keeps { KeepsAll S.Source R.Source L.Log (source.old, root.old, log.old)
             (source.new, root.new, log.new) }
     {
-        let sight = see(&mut self.survey, &mut self.beside, source, root, log)?;
+        let sight = self.see(source, root, log)?;
         let told = self.tell(sight, source, root, log)?;
         self.counts = told.counts;
         Ok(told.more)
+    }
+
+    // Makes one step of the survey, and reads the root as far.
+    fn see<S: Source, R: Source, L: Log>(
+        &mut self,
+        source: &mut S,
+        root: &mut R,
+        log: &mut L,
+    ) -> Result<SurveyEvent, Fault>
+        requires { FollowsOn (S.told source.old) (R.told root.old)
+            self.old.beside self.old.survey }
+        ensures made { SeesStep self.old self.new
+            (audit_states S.Source R.Source L.Log (source.old, root.old, log.old))
+            (audit_states S.Source R.Source L.Log (source.new, root.new, log.new)) result }
+        ensures keeps { KeepsAll S.Source R.Source L.Log (source.old, root.old, log.old)
+            (source.new, root.new, log.new) }
+        ensures unread { LeavesRoot self.old.by root.old root.new }
+    {
+        let sight = self.survey.step(source, log)?;
+        self.follow(root, sight)?;
+        Ok(sight)
+    }
+
+    // Reads the root as far as the survey has seen; by lengths nothing is read of it beside.
+    fn follow<R: Source>(&mut self, root: &mut R, sight: SurveyEvent) -> Result<(), Fault>
+        requires ready { CanFollow (R.told root.old) self.old.beside }
+        requires saw { sight ≡ sight_at self.old.survey.phase }
+        ensures beside { self.new ≡ record self.old { beside = self.new.beside } }
+        ensures paced { (source : Option Reading)
+            → IsBehind source (R.told root.old) self.old.beside self.old.survey
+            → OnOk result (IsPaced source (R.told root.new) self.new.beside self.old.survey) }
+        ensures still { OnOk result (CanFollow (R.told root.new) self.new.beside) }
+        ensures root { KeepsRoot R.told R.keeps root.old root.new
+            × LeavesRoot self.old.by root.old root.new }
+        ensures failures { ReadFailsAs result (R.failed root.old) (R.failed root.new) }
+    {
+        match self.by {
+            CompareBy::Bytes => self.beside.follow(root, &self.survey, sight),
+            CompareBy::Lengths => {
+                self.beside.stay_closed();
+                Ok(())
+            }
+        }
     }
 
     // Tells of what was seen by a step.
@@ -305,7 +360,7 @@ impl Auditor {
     {
         let hand = self.survey.at_hand()?;
         let finding = self.judge(&hand, source, root)?;
-        let line = object_line(self.alloc, &hand.told, finding.is_twin, &finding.comparison)?;
+        let line = object_line(self.alloc, self.by, &hand.told, &finding)?;
         log.put(line.as_bytes()).map_err(Fault::of_log)?;
         Ok(self.counts.with(&finding.comparison))
     }
@@ -321,8 +376,8 @@ impl Auditor {
             self.now.beside self.now.survey }
         requires at_hand { sight_at self.now.survey.phase ≡ sight.Object }
         requires hand { IsHand self.now.survey hand.now }
-        ensures found { IfOk result (λ it. IsFoundAtHand self.now.survey.state.job hand.now
-            (tree_in (S.told source.old)) (tree_in (R.told root.old)) it.comparison) }
+        ensures found { IfOk result (λ it. IsFoundAtHand self.now.by self.now.survey.state.job
+            hand.now (tree_in (S.told source.old)) (tree_in (R.told root.old)) it.comparison) }
         ensures twin { IfOk result (λ it. IsTwinAtHand (tree_in (S.told source.old))
             self.now.survey hand.now.told.id.now it.comparison it.is_twin) }
         ensures source { KeepsRoot S.told S.keeps source.old source.new }
@@ -349,7 +404,7 @@ impl Auditor {
             self.now.beside self.now.survey }
         requires at_hand { sight_at self.now.survey.phase ≡ sight.Object }
         requires hand { IsHand self.now.survey hand.now }
-        ensures found { IfOk result (IsFoundAtHand self.now.survey.state.job hand.now
+        ensures found { IfOk result (IsFoundAtHand self.now.by self.now.survey.state.job hand.now
             (tree_in (S.told source.old)) (tree_in (R.told root.old))) }
         ensures source { KeepsRoot S.told S.keeps source.old source.new }
         ensures root { KeepsRoot R.told R.keeps root.old root.new }
@@ -368,34 +423,11 @@ impl Auditor {
             from: &from,
             to: &to,
         };
-        compare(self.alloc, source, root, &object)
+        match self.by {
+            CompareBy::Bytes => compare(self.alloc, source, root, &object),
+            CompareBy::Lengths => look_over(self.alloc, source, root, &object),
+        }
     }
-}
-
-// Makes one step of the survey, and reads the root as far.
-fn see<S: Source, R: Source, L: Log>(
-    survey: &mut Survey,
-    beside: &mut RootReader,
-    source: &mut S,
-    root: &mut R,
-    log: &mut L,
-) -> Result<SurveyEvent, Fault>
-    requires { FollowsOn (S.told source.old) (R.told root.old) beside.old survey.old }
-    ensures on { MovesOn (S.told source.old, L.told log.old) (S.told source.new, L.told log.new)
-        survey.old (λ sight. survey.new) result }
-    ensures saw { IfOk result (λ what. Steps (tree_in (S.told source.old)) survey.old survey.new
-        × Saw (S.told source.new) (R.told root.new) beside.new what survey.new) }
-    ensures keeps { KeepsAll S.Source R.Source L.Log (source.old, root.old, log.old)
-        (source.new, root.new, log.new) }
-    ensures blamed { FailsRightly survey.old.state.job
-        (audit_states S.Source R.Source L.Log (source.old, root.old, log.old))
-        (audit_states S.Source R.Source L.Log (source.new, root.new, log.new)) result }
-    ensures stops { OnErr result ((counts : Counts) → StopsUnderWay (S.told source.old)
-        (tree_in (R.told root.old)) (L.told log.old) counts survey.old (L.told log.new)) }
-{
-    let sight = survey.step(source, log)?;
-    beside.follow(root, survey, sight)?;
-    Ok(sight)
 }
 
 // Whether what was found of the object at hand, which has this identifier, is told as the
@@ -426,16 +458,21 @@ fn finds_twin<S: Source>(
 }
 
 // Tells the end, with the counts, and gives these.
-fn tell_audit_end<L: Log>(alloc: Global, counts: Counts, log: &mut L) -> Result<Counts, Fault>
+fn tell_audit_end<L: Log>(
+    alloc: Global,
+    by: CompareBy,
+    counts: Counts,
+    log: &mut L,
+) -> Result<Counts, Fault>
     ensures told { IfOk result (λ told. (told ≡ counts)
-        × Appends (L.told log.old) (L.told log.new) (last_text counts)) }
+        × Appends (L.told log.old) (L.told log.new) (last_text by counts)) }
     ensures part { OnErr result (AppendsFront (L.told log.old) (L.told log.new)
-        (last_text counts)) }
+        (last_text by counts)) }
     ensures log { KeepsLog L.told L.keeps log.old log.new }
     ensures fails { FailsAs result (failures 0 0 (L.failed log.old))
         (failures 0 0 (L.failed log.new)) }
 {
-    let line = end_line(alloc, &counts)?;
+    let line = end_line(alloc, by, &counts)?;
     log.put(line.as_bytes()).map_err(Fault::of_log)?;
     Ok(counts)
 }

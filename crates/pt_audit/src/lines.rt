@@ -3,11 +3,12 @@
 //! bytes up to 2^64 - 1.
 ghost use Rattle.std.specs.Prelude.{◌≡◌, IfOk};
 ghost use Rattle.std.specs.String.{string_bytes};
-ghost use Rattle.pt_audit.specs.Lines.{line_by, line_text};
+ghost use Rattle.pt_audit.specs.Lines.{end_by, line_by, line_text, standing_by};
 ghost use Rattle.pt_audit.specs.Lines as line;
 ghost use Rattle.pt_audit.specs.Lines.{told_of};
 
-use crate::{Comparison, Counts};
+use crate::auditing::AuditFinding;
+use crate::{CompareBy, Comparison, Counts};
 use pt_plan::lines::{ToldObject, text_of};
 use pt_plan::members::Member::{Number, Path, Text};
 use pt_plan::members::line_with;
@@ -17,23 +18,42 @@ use std::alloc::Global;
 // Why a twin differs, in the place of what is wrong at the path.
 const TWIN: &str = "twin";
 
-/// The line of an object, by whether it is a twin, and what was found at its place.
+/// The line of an object, by what was compared, and what was found at its place.
 pub(crate) fn object_line(
     alloc: Global,
+    by: CompareBy,
     object: &ToldObject<'_>,
-    is_twin: bool,
-    finding: &Comparison,
+    finding: &AuditFinding,
 ) -> Result<String, MemoryFault>
     ensures { IfOk result (λ text. string_bytes text
-        ≡ line_text (line_by (told_of object.now) is_twin finding.now)) }
+        ≡ line_text (line_by by (told_of object.now) finding.now.is_twin finding.now.comparison)) }
 {
-    match finding {
-        Comparison::Same => same_line(alloc, object),
+    match &finding.comparison {
+        Comparison::Same => standing_line(alloc, by, object),
         Comparison::Absent => absent_line(alloc, object),
         Comparison::Differs(difference) => {
-            let why = if is_twin { TWIN } else { difference.why.word() };
+            let why = if finding.is_twin {
+                TWIN
+            } else {
+                difference.why.word()
+            };
             differs_line(alloc, object, &difference.path, why)
         }
+    }
+}
+
+// The line of an object that stands, by what was compared.
+fn standing_line(
+    alloc: Global,
+    by: CompareBy,
+    object: &ToldObject<'_>,
+) -> Result<String, MemoryFault>
+    ensures { IfOk result
+        (λ text. string_bytes text ≡ line_text (standing_by by (told_of object.now))) }
+{
+    match by {
+        CompareBy::Bytes => same_line(alloc, object),
+        CompareBy::Lengths => alike_line(alloc, object),
     }
 }
 
@@ -45,6 +65,20 @@ fn same_line(alloc: Global, object: &ToldObject<'_>) -> Result<String, MemoryFau
         Path("at", text_of(&object.at)?),
         Number("bytes", object.bytes),
         Number("empty", object.empty),
+        Number("files", object.files),
+        Text("id", object.id.as_str()),
+        Path("to", text_of(object.to)?),
+    ];
+    line_with(alloc, &members)
+}
+
+fn alike_line(alloc: Global, object: &ToldObject<'_>) -> Result<String, MemoryFault>
+    ensures { IfOk result
+        (λ text. string_bytes text ≡ line_text (line.Alike (told_of object.now))) }
+{
+    let members = [
+        Text("as", "alike"),
+        Path("at", text_of(&object.at)?),
         Number("files", object.files),
         Text("id", object.id.as_str()),
         Path("to", text_of(object.to)?),
@@ -85,8 +119,17 @@ fn differs_line(
     line_with(alloc, &members)
 }
 
-/// The end line, with these counts.
-pub(crate) fn end_line(alloc: Global, counts: &Counts) -> Result<String, MemoryFault>
+/// The end line, by what was compared, with these counts.
+pub(crate) fn end_line(alloc: Global, by: CompareBy, counts: &Counts) -> Result<String, MemoryFault>
+    ensures { IfOk result (λ text. string_bytes text ≡ line_text (end_by by counts.now)) }
+{
+    match by {
+        CompareBy::Bytes => whole_end_line(alloc, counts),
+        CompareBy::Lengths => quick_end_line(alloc, counts),
+    }
+}
+
+fn whole_end_line(alloc: Global, counts: &Counts) -> Result<String, MemoryFault>
     ensures { IfOk result (λ text. string_bytes text ≡ line_text (line.End counts.now.same
         counts.now.absent counts.now.differs counts.now.skipped)) }
 {
@@ -95,6 +138,20 @@ pub(crate) fn end_line(alloc: Global, counts: &Counts) -> Result<String, MemoryF
         Text("as", "end"),
         Number("differs", counts.differs),
         Number("same", counts.same),
+        Number("skip", counts.skipped),
+    ];
+    line_with(alloc, &members)
+}
+
+fn quick_end_line(alloc: Global, counts: &Counts) -> Result<String, MemoryFault>
+    ensures { IfOk result (λ text. string_bytes text ≡ line_text (line.QuickEnd counts.now.same
+        counts.now.absent counts.now.differs counts.now.skipped)) }
+{
+    let members = [
+        Number("absent", counts.absent),
+        Number("alike", counts.same),
+        Text("as", "end"),
+        Number("differs", counts.differs),
         Number("skip", counts.skipped),
     ];
     line_with(alloc, &members)

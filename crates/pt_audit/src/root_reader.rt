@@ -8,7 +8,7 @@
 //! (`BesideFields`).
 ghost use Rattle.std.specs.Prelude.{◌≡◌, ◌++◌, IfOk, OnOk, Option, is_some};
 ghost use Rattle.pt_audit.specs.RootReader.{CanFollow, HasBegun, IsAlikeAt, IsAtObject, IsBehind};
-ghost use Rattle.pt_audit.specs.RootReader.{IsPaced};
+ghost use Rattle.pt_audit.specs.RootReader.{IsPaced, StaysClosed};
 ghost use Rattle.pt_audit.specs.Failing.{ReadFailsAs};
 ghost use Rattle.pt_object.specs.Object.{in_content};
 ghost use Rattle.pt_compare.specs.Root.{KeepsRoot};
@@ -86,6 +86,14 @@ impl RootReader {
                 Ok(())
             }
         }
+    }
+
+    /// Reads nothing on, and holds nothing to be alike.
+    pub(crate) fn stay_closed(&mut self)
+        ensures { StaysClosed self.old self.new }
+    {
+        self.reads = false;
+        self.alike = 0;
     }
 
     // Opens the file of the root beside the one that was opened, where all contents before it are

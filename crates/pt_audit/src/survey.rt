@@ -45,6 +45,7 @@ ghost use Rattle.pt_tree.specs.Source.{Reading, tree_in};
 ghost use Rattle.pt_walk.specs.Trail.{trail_path};
 
 use crate::auditing::ObjectsAudit;
+use crate::compare_by::CompareBy;
 use crate::counts::Counts;
 use crate::empty_dest::{EmptyDest, NullLog};
 use pt_move::turning::{new_state, turn};
@@ -243,9 +244,9 @@ impl Survey {
         self.state.prefix.as_str()
     }
 
-    /// What an audit of these counts gives back, once all was seen.
-    pub(crate) fn into_audit(self, counts: Counts) -> ObjectsAudit
-        ensures counts { result.counts ≡ counts }
+    /// What an audit of these counts that compared by this gives back, once all was seen.
+    pub(crate) fn into_audit(self, by: CompareBy, counts: Counts) -> ObjectsAudit
+        ensures counts { (result.by ≡ by) × (result.counts ≡ counts) }
         ensures given { (result.job ≡ self.state.job) × (result.prefix ≡ self.state.prefix) }
         ensures unmet { result.unmet ≡ self.state.unmet }
     {
@@ -253,6 +254,7 @@ impl Survey {
         ObjectsAudit {
             counts,
             job: state.job,
+            by,
             prefix: state.prefix,
             unmet: state.unmet,
         }

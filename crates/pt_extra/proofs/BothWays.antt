@@ -10,7 +10,9 @@ use Rattle.pt_audit.specs.Bounds.{IsMade, counts_at_end}
 use Rattle.pt_audit.specs.Failing.{BlamesRightly}
 use Rattle.pt_audit.specs.declared.auditing.AuditCompletion.{AuditCompletion}
 use Rattle.pt_audit.specs.declared.auditing.ObjectsAudit.{ObjectsAudit}
+use Rattle.pt_audit.specs.declared.compare_by.CompareBy.{CompareBy}
 use Rattle.pt_audit.specs.declared.counts.Counts.{Counts}
+use Rattle.pt_audit.specs.declared.task.AuditTask.{AuditTask}
 use Rattle.pt_tree.specs.Source.{tree_in}
 use Rattle.pt_extra.proofs.Telling.{appends_on, front_more, front_on}
 use Rattle.pt_extra.specs.Audits.{
@@ -51,16 +53,23 @@ use Rattle.pt_tree.specs.declared.source.Source.{Ghosts as OfSource}
 -- ---- behind the objects' lines
 
 -- the lines of what is found, and then the end line
-pub puts_rest : (counts : Counts) (fs : List ExtraFinding) (a b c : Option (List ℕ)) (numbers : ExtraNumbers) (ran : Result AuditCounts Fault)
+pub puts_rest : (audited : ObjectsAudit) (fs : List ExtraFinding) (a b c : Option (List ℕ)) (numbers : ExtraNumbers) (ran : Result AuditCounts Fault)
     → Appends a b (texts fs) → numbers ≡ with_findings fs no_numbers
-    → IfOk ran (λ told. (told ≡ record { counts = counts; numbers = numbers }) × Appends b c (last_text (record { counts = counts; numbers = numbers })))
-    → OnErr ran (AppendsFront b c (last_text (record { counts = counts; numbers = numbers }))) → PutsRest counts fs a c ran
-puts_rest counts fs a b c numbers (Ok told) first is puts part =
-    let same : (record { counts = counts; numbers = numbers }) ≡ with_found counts fs = λ i. record { counts = counts; numbers = is i } in
-    (puts.0 ∙ same, appends_on a b c (texts fs) (last_text (with_found counts fs)) first (subst (λ (k : AuditCounts). Appends b c (last_text k)) same puts.1))
-puts_rest counts fs a b c numbers (Err why) first is puts part =
-    let same : (record { counts = counts; numbers = numbers }) ≡ with_found counts fs = λ i. record { counts = counts; numbers = is i } in
-    front_on a b c (texts fs) (last_text (with_found counts fs)) first (subst (λ (k : AuditCounts). AppendsFront b c (last_text k)) same part)
+    → IfOk ran (λ told. (told ≡ record { counts = audited.counts; numbers = numbers })
+    × Appends b c (last_text audited.by (record { counts = audited.counts; numbers = numbers })))
+    → OnErr ran (AppendsFront b c (last_text audited.by (record { counts = audited.counts; numbers = numbers }))) → PutsRest audited fs a c ran
+puts_rest audited fs a b c numbers (Ok told) first is puts part =
+    let same : (record { counts = audited.counts; numbers = numbers }) ≡ with_found audited.counts fs =
+    λ i. record { counts = audited.counts; numbers = is i } in (
+      puts.0 ∙ same,
+      appends_on a b c (texts fs) (last_text audited.by (with_found audited.counts fs)) first
+          (subst (λ (k : AuditCounts). Appends b c (last_text audited.by k)) same puts.1),
+    )
+puts_rest audited fs a b c numbers (Err why) first is puts part =
+    let same : (record { counts = audited.counts; numbers = numbers }) ≡ with_found audited.counts fs =
+    λ i. record { counts = audited.counts; numbers = is i } in
+    front_on a b c (texts fs) (last_text audited.by (with_found audited.counts fs)) first
+    (subst (λ (k : AuditCounts). AppendsFront b c (last_text audited.by k)) same part)
 
 -- a walk that is to begin over these, with what an audit gave back
 pub record IsBegun {S R L E : Type 0} (walk : Extras S R L E) (devices : ExtraDevices S R L E) (audited : ObjectsAudit) : Type 0 where
@@ -76,7 +85,7 @@ begun devices against numbers = record { devices_are = devices; against_is = aga
 module _ {S R L E : Type 0} (store : OfSource S) (root : OfSource R) (log : OfLog L) (walk after : Extras S R L E) (devices : ExtraDevices S R L E)
     (audited : ObjectsAudit) (it : IsBegun walk devices audited) where
   start : AuditStart
-  start = start_over (tree_in (store.told devices.store)) (tree_in (root.told devices.root)) (log.told devices.log)
+  start = start_over audited.by (tree_in (store.told devices.store)) (tree_in (root.told devices.root)) (log.told devices.log)
 
   same : (s : Forest) → against walk s ≡ against_given audited s
   same s = λ i. record { job = job_of (it.against_is.0 i); prefix = string_bytes (it.against_is.1 i); store = s }
@@ -92,67 +101,70 @@ module _ {S R L E : Type 0} (store : OfSource S) (root : OfSource R) (log : OfLo
   pub tells_rest : (numbers : ExtraNumbers) (now : Option (List ℕ)) (ran : Result AuditCounts Fault) → TellsPast store root log IsToldIn walk after
       → numbers ≡ after.numbers
       → IfOk ran (λ told. (told ≡ record { counts = audited.counts; numbers = numbers })
-      × Appends (log.told after.log) now (last_text (record { counts = audited.counts; numbers = numbers })))
-      → OnErr ran (AppendsFront (log.told after.log) now (last_text (record { counts = audited.counts; numbers = numbers })))
+      × Appends (log.told after.log) now (last_text audited.by (record { counts = audited.counts; numbers = numbers })))
+      → OnErr ran (AppendsFront (log.told after.log) now (last_text audited.by (record { counts = audited.counts; numbers = numbers })))
       → TellsRest (HasRisen (root.failed devices.root) (root.failed after.root)) audited
-      (start_over (tree_in (store.told devices.store)) (tree_in (root.told devices.root)) (log.told devices.log)) now ran
+      (start_over audited.by (tree_in (store.told devices.store)) (tree_in (root.told devices.root)) (log.told devices.log)) now ran
   tells_rest numbers now ran told numbers_are puts part = λ s is r there.
       let found = told s (ap (λ (x : S). tree_in (store.told x)) it.devices_are.0 ∙ is) r (ap (λ (x : R). tree_in (root.told x)) it.devices_are.1 ∙ there) in (
         found.0,
         may s r found.0 found.1,
-        subst (λ (x : L). PutsRest audited.counts found.0 (log.told x) now ran) it.devices_are.2
-            (puts_rest audited.counts found.0 (log.told walk.log) (log.told after.log) now numbers ran found.2.held
+        subst (λ (x : L). PutsRest audited found.0 (log.told x) now ran) it.devices_are.2
+            (puts_rest audited found.0 (log.told walk.log) (log.told after.log) now numbers ran found.2.held
             (numbers_are ∙ found.2.numbers ∙ ap (with_findings found.0) it.numbers_are) puts part),
       )
 
   -- it broke off
   pub stops_rest : (why : Fault) → TellsFrontPast store root log IsToldIn walk after
       → TellsRest (HasRisen (root.failed devices.root) (root.failed after.root)) audited
-      (start_over (tree_in (store.told devices.store)) (tree_in (root.told devices.root)) (log.told devices.log)) (log.told after.log) (Err why)
+      (start_over audited.by (tree_in (store.told devices.store)) (tree_in (root.told devices.root)) (log.told devices.log)) (log.told after.log) (Err why)
   stops_rest why front = λ s is r there.
       let found = front s (ap (λ (x : S). tree_in (store.told x)) it.devices_are.0 ∙ is) r (ap (λ (x : R). tree_in (root.told x)) it.devices_are.1 ∙ there) in (
         found.0,
         may s r found.0 found.1,
-        subst (λ (x : L). AppendsFront (log.told x) (log.told after.log) (rest_text audited.counts found.0)) it.devices_are.2
-            (front_more (log.told walk.log) (log.told after.log) (texts found.0) (last_text (with_found audited.counts found.0)) found.2),
+        subst (λ (x : L). AppendsFront (log.told x) (log.told after.log) (rest_text audited.by audited.counts found.0)) it.devices_are.2
+            (front_more (log.told walk.log) (log.told after.log) (texts found.0) (last_text audited.by (with_found audited.counts found.0)) found.2),
       )
 
 -- ---- a whole audit
 
-pub extra_logs : (F : Type 0) (job : own.Job) (start : AuditStart) (source root : Option Forest) (mid now : Option (List ℕ)) (audited : ObjectsAudit)
-    (ran : Result AuditCounts Fault) → source ≡ start.source → root ≡ start.root → AllToldAs (job_of job) start mid audited.counts
-    → GivesBack job start.source audited
-    → TellsRest F audited (start_over source root mid) now ran → ExtraLogs F (job_of job) start now ran
-extra_logs F job start source root mid now audited ran source_is root_is all given rest = by ran rest
+pub extra_logs : (F : Type 0) (task : AuditTask) (start : AuditStart) (source root : Option Forest) (mid now : Option (List ℕ)) (audited : ObjectsAudit)
+    (ran : Result AuditCounts Fault) → start.by ≡ task.by → source ≡ start.source → root ≡ start.root
+    → AllToldAs (job_of task.job) start mid audited.counts → GivesBack task start.source audited
+    → TellsRest F audited (start_over audited.by source root mid) now ran → ExtraLogs F (job_of task.job) start now ran
+extra_logs F task start source root mid now audited ran by_is source_is root_is all given rest = by ran rest
   where
-    same : (s : Forest) → start.source ≡ Some s → against_given audited s ≡ against_store (job_of job) s
-    same s e = λ i. record { job = job_of (given.0 i); prefix = given.1 s e i; store = s }
+    same : (s : Forest) → start.source ≡ Some s → against_given audited s ≡ against_store (job_of task.job) s
+    same s e = λ i. record { job = job_of (given.job i); prefix = given.prefix s e i; store = s }
 
-    whole : (s r : Forest) (lines : List ℕ) (fs : List ExtraFinding) → start.source ≡ Some s → IsAllTold (job_of job) s r lines audited.counts
+    compared : audited.by ≡ start.by
+    compared = given.by ∙ sym by_is
+
+    whole : (s r : Forest) (lines : List ℕ) (fs : List ExtraFinding) → start.source ≡ Some s → IsAllTold start.by (job_of task.job) s r lines audited.counts
         → IsToldIn F (against_given audited s) r fs
-        → IsExtraLog F (job_of job) s r (lines ++ rest_text audited.counts fs) (with_found audited.counts fs)
+        → IsExtraLog F start.by (job_of task.job) s r (lines ++ rest_text audited.by audited.counts fs) (with_found audited.counts fs)
     whole s r lines fs e all may = record {
       lines = lines;
       all = all;
       findings = fs;
       of_root = subst (λ (x : Against). IsToldIn F x r fs) (same s e) may;
       numbers = refl;
-      whole = refl;
+      whole = ap (λ (b : CompareBy). lines ++ rest_text b audited.counts fs) compared;
     }
 
-    by : (ran : Result AuditCounts Fault) → TellsRest F audited (start_over source root mid) now ran → ExtraLogs F (job_of job) start now ran
+    by : (ran : Result AuditCounts Fault) → TellsRest F audited (start_over audited.by source root mid) now ran → ExtraLogs F (job_of task.job) start now ran
     by (Ok told) rest = λ s e r f old g.
         let had = all s e r f old g in
         let found = rest s (source_is ∙ e) r (root_is ∙ f) in
-        let more = rest_text audited.counts found.0 in (
+        let more = rest_text audited.by audited.counts found.0 in (
           had.0 ++ more,
           put_behind old had.0 more mid now had.1 found.2.1,
-          subst (IsExtraLog F (job_of job) s r (had.0 ++ more)) (sym found.2.0) (whole s r had.0 found.0 e had.2 found.1),
+          subst (IsExtraLog F start.by (job_of task.job) s r (had.0 ++ more)) (sym found.2.0) (whole s r had.0 found.0 e had.2 found.1),
         )
     by (Err why) rest = λ s e r f old g.
         let had = all s e r f old g in
         let found = rest s (source_is ∙ e) r (root_is ∙ f) in
-        let more = rest_text audited.counts found.0 in
+        let more = rest_text audited.by audited.counts found.0 in
         let put = front_put old had.0 more mid now had.1 found.2 in
         (put.0, had.0 ++ more, put.1, WithRest (whole s r had.0 found.0 e had.2 found.1))
 
@@ -169,10 +181,10 @@ in_counts (Err why) = refl
 
 pub plain_logs : (F : Type 0) (job : Job) (start : AuditStart) (now : Option (List ℕ)) (ran : Result Counts Fault) (told : Result AuditCounts Fault)
     → told ≡ counts_of ran
-    → LogsAs job start.source start.root start.log now ran → AuditLogs false F job start now told
+    → LogsAs job start now ran → AuditLogs false F job start now told
 plain_logs F job start now ran told is logs =
     subst (AuditLogs false F job start now) (sym is) (
-      subst (LogsAs job start.source start.root start.log now) (sym (in_counts ran)) logs,
+      subst (LogsAs job start now) (sym (in_counts ran)) logs,
       ap counts_of (in_counts ran),
     )
 

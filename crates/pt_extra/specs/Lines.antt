@@ -1,5 +1,7 @@
 -- The lines that tell what a root has and its store lacks: each one compact JSON object with its keys in byte order, and LF.
 use Rattle.std.specs.Prelude.{ℕ, List, [], ◌∷◌, ◌++◌, codes}
+use Rattle.pt_audit.specs.declared.compare_by.CompareBy.{CompareBy}
+use Rattle.pt_audit.specs.declared.compare_by.CompareBy.TheVariants.{Bytes, Lengths}
 use Rattle.pt_extra.specs.declared.auditing.AuditCounts.{AuditCounts}
 use Rattle.pt_plan.specs.Lines.{number_member, text_member}
 use Rattle.pt_tree.specs.Path.{Path, joined}
@@ -37,9 +39,9 @@ abbrev pub texts : List ExtraFinding → List ℕ
 texts [] = []
 texts (finding ∷ findings) = line_text finding ++ texts findings
 
--- the end line, with these counts, as a tree of JSON
-abbrev pub last_tree : AuditCounts → Data
-last_tree told = json.object
+-- the end line, by what was compared, with these counts, as a tree of JSON
+abbrev pub last_tree : CompareBy → AuditCounts → Data
+last_tree Bytes told = json.object
     (number_member (codes "absent") told.counts.absent
     (text_member (codes "as") (codes "end")
     (number_member (codes "differs") told.counts.differs
@@ -47,7 +49,15 @@ last_tree told = json.object
     (number_member (codes "same") told.counts.same
     (number_member (codes "skip") told.counts.skipped
     (number_member (codes "stray") told.numbers.stray no_members)))))))
+last_tree Lengths told = json.object
+    (number_member (codes "absent") told.counts.absent
+    (number_member (codes "alike") told.counts.same
+    (text_member (codes "as") (codes "end")
+    (number_member (codes "differs") told.counts.differs
+    (number_member (codes "extra") told.numbers.extra
+    (number_member (codes "skip") told.counts.skipped
+    (number_member (codes "stray") told.numbers.stray no_members)))))))
 
 -- its compact text, and LF
-abbrev pub last_text : AuditCounts → List ℕ
-last_text told = compact_text (last_tree told) ++ 10 ∷ []
+abbrev pub last_text : CompareBy → AuditCounts → List ℕ
+last_text by told = compact_text (last_tree by told) ++ 10 ∷ []

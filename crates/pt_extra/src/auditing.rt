@@ -15,9 +15,9 @@ ghost use Rattle.pt_tree.specs.Log.{AppendsFront};
 
 use crate::lines::end_line;
 use crate::{ExtraDevices, ExtraNumbers, Extras};
-use pt_audit::{AuditCompletion, Counts, ObjectsAudit, audit_objects};
+use pt_audit::{AuditCompletion, AuditTask, CompareBy, Counts, ObjectsAudit, audit_objects};
 use pt_check::Explains;
-use pt_move::{Job, Observer};
+use pt_move::Observer;
 use pt_name::UnmetIdentifiers;
 use pt_plan::Fault;
 use pt_tree::{Log, Source};
@@ -45,14 +45,14 @@ pub struct AuditEnd<S, R, L, E> {
 
 /// An audit, as `audit` of pt_audit makes it; where extras are wanted too, the log tells of what
 /// the root has and the store lacks, behind the lines of what the store has and before the end
-/// line, which counts both.
+/// line, which counts both. Names and identifiers alone tell that, by lengths too.
 ///
 /// It answers the faults of `audit`, and those of a walk (`Extras::run`). After a fault the log has
 /// a front of what is told.
 pub fn audit<S, R, L, E, O>(
     alloc: Global,
     devices: ExtraDevices<S, R, L, E>,
-    job: Job,
+    task: AuditTask,
     with_extras: bool,
     observer: &O,
 ) -> AuditEnd<S, R, L, E>
@@ -62,10 +62,10 @@ where
     L: Log,
     E: Explains<R> + Drop,
     O: Observer<Counts>,
-    ensures { AuditsDevices S.Source R.Source L.Log with_extras job (devices, result) }
+    ensures { AuditsDevices S.Source R.Source L.Log with_extras task (devices, result) }
 {
     if with_extras {
-        return audit_with_extras(alloc, devices, job, observer);
+        return audit_with_extras(alloc, devices, task, observer);
     }
     let ExtraDevices {
         mut store,
@@ -73,7 +73,7 @@ where
         mut log,
         explains,
     } = devices;
-    let audited = pt_audit::audit(alloc, &mut store, &mut root, &mut log, job, observer);
+    let audited = pt_audit::audit(alloc, &mut store, &mut root, &mut log, task, observer);
     AuditEnd {
         ran: without_extras(&audited),
         unmet: unmet_after(alloc, audited),
@@ -113,7 +113,7 @@ fn unmet_after(alloc: Global, audited: Result<AuditCompletion, Fault>) -> UnmetI
 fn audit_with_extras<S, R, L, E, O>(
     alloc: Global,
     devices: ExtraDevices<S, R, L, E>,
-    job: Job,
+    task: AuditTask,
     observer: &O,
 ) -> AuditEnd<S, R, L, E>
 where
@@ -122,7 +122,7 @@ where
     L: Log,
     E: Explains<R> + Drop,
     O: Observer<Counts>,
-    ensures { AuditsDevices S.Source R.Source L.Log true job (devices, result) }
+    ensures { AuditsDevices S.Source R.Source L.Log true task (devices, result) }
 {
     let ExtraDevices {
         mut store,
@@ -130,7 +130,7 @@ where
         mut log,
         explains,
     } = devices;
-    let audited = audit_objects(alloc, &mut store, &mut root, &mut log, job, observer);
+    let audited = audit_objects(alloc, &mut store, &mut root, &mut log, task, observer);
     let devices = ExtraDevices {
         store,
         root,
@@ -159,7 +159,7 @@ where
     L: Log,
     E: Explains<R> + Drop,
     ensures told { TellsRest (HasRisen (R.failed devices.root) (R.failed result.devices.root))
-        audited (start_over (tree_in (S.told devices.store))
+        audited (start_over audited.by (tree_in (S.told devices.store))
         (tree_in (R.told devices.root)) (L.told devices.log))
         (L.told result.devices.log) result.ran }
     ensures counts { IfOk result.ran (λ told. told.counts ≡ audited.counts) }
@@ -175,6 +175,7 @@ where
     let ObjectsAudit {
         counts,
         job,
+        by,
         prefix,
         unmet,
     } = audited;
@@ -184,7 +185,7 @@ where
     match found {
         Ok(numbers) => {
             let told = AuditCounts { counts, numbers };
-            let ran = tell_end_of_both(alloc, told, &mut devices.log);
+            let ran = tell_end_of_both(alloc, by, told, &mut devices.log);
             AuditEnd {
                 ran,
                 unmet,
@@ -202,18 +203,19 @@ where
 // Tells the end, with the counts, and gives these.
 fn tell_end_of_both<L: Log>(
     alloc: Global,
+    by: CompareBy,
     counts: AuditCounts,
     log: &mut L,
 ) -> Result<AuditCounts, Fault>
     ensures told { IfOk result (λ told. (told ≡ counts)
-        × Appends (L.told log.old) (L.told log.new) (last_text counts)) }
+        × Appends (L.told log.old) (L.told log.new) (last_text by counts)) }
     ensures part { OnErr result (AppendsFront (L.told log.old) (L.told log.new)
-        (last_text counts)) }
+        (last_text by counts)) }
     ensures log { KeepsLog L.told L.keeps log.old log.new }
     ensures fails { FailsAs result (failures 0 0 (L.failed log.old))
         (failures 0 0 (L.failed log.new)) }
 {
-    let line = end_line(alloc, &counts)?;
+    let line = end_line(alloc, by, &counts)?;
     log.put(line.as_bytes()).map_err(Fault::of_log)?;
     Ok(counts)
 }

@@ -4,8 +4,8 @@
 //! Read `audit` first, then `Extras`, the walk over the root (walking.rt):
 //!
 //! ```rust
-//! let AuditEnd { ran, devices } = audit(alloc, devices, job, true, &observer); // With extras.
-//! let counts = ran?;
+//! let end = audit(alloc, devices, task, true, &observer); // With extras.
+//! let counts = end.ran?;
 //! ```
 //!
 //! What it promises, over any store, root and log:

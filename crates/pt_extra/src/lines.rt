@@ -2,10 +2,12 @@
 //! LF.
 ghost use Rattle.std.specs.Prelude.{◌≡◌, IfOk};
 ghost use Rattle.std.specs.String.{string_bytes};
+ghost use Rattle.pt_audit.specs.declared.compare_by.CompareBy.TheVariants as by;
 ghost use Rattle.pt_extra.specs.Lines.{Extra, Stray, Unlisted, last_text, line_text};
 
 use crate::AuditCounts;
 use crate::spelling::spell_between;
+use pt_audit::CompareBy;
 use pt_plan::lines::text_of;
 use pt_plan::members::Member::{Number, Path, Text};
 use pt_plan::members::line_with;
@@ -55,9 +57,22 @@ pub(crate) fn extra_line(alloc: Global, id: String, to: &NamePath) -> Result<Vec
     spell_between(before, id, behind)
 }
 
-/// The end line, with these counts.
-pub(crate) fn end_line(alloc: Global, told: &AuditCounts) -> Result<String, MemoryFault>
-    ensures { IfOk result (λ text. string_bytes text ≡ last_text told.now) }
+/// The end line, by what was compared, with these counts.
+pub(crate) fn end_line(
+    alloc: Global,
+    by: CompareBy,
+    told: &AuditCounts,
+) -> Result<String, MemoryFault>
+    ensures { IfOk result (λ text. string_bytes text ≡ last_text by told.now) }
+{
+    match by {
+        CompareBy::Bytes => whole_end_line(alloc, told),
+        CompareBy::Lengths => quick_end_line(alloc, told),
+    }
+}
+
+fn whole_end_line(alloc: Global, told: &AuditCounts) -> Result<String, MemoryFault>
+    ensures { IfOk result (λ text. string_bytes text ≡ last_text by.Bytes told.now) }
 {
     let members = [
         Number("absent", told.counts.absent),
@@ -65,6 +80,21 @@ pub(crate) fn end_line(alloc: Global, told: &AuditCounts) -> Result<String, Memo
         Number("differs", told.counts.differs),
         Number("extra", told.numbers.extra),
         Number("same", told.counts.same),
+        Number("skip", told.counts.skipped),
+        Number("stray", told.numbers.stray),
+    ];
+    line_with(alloc, &members)
+}
+
+fn quick_end_line(alloc: Global, told: &AuditCounts) -> Result<String, MemoryFault>
+    ensures { IfOk result (λ text. string_bytes text ≡ last_text by.Lengths told.now) }
+{
+    let members = [
+        Number("absent", told.counts.absent),
+        Number("alike", told.counts.same),
+        Text("as", "end"),
+        Number("differs", told.counts.differs),
+        Number("extra", told.numbers.extra),
         Number("skip", told.counts.skipped),
         Number("stray", told.numbers.stray),
     ];

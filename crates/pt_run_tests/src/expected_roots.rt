@@ -137,11 +137,11 @@ pub const LAYOUT: (&str, &str) = (
 
 pub const DECLARATION: (&str, &str) = ("ocfl/0=ocfl_1.1", "ocfl_1.1\n");
 
-// The inventory of the store of one object, and its digest, as a sidecar has it.
-const INVENTORY: &str =
+/// The inventory of the store of one object, and its digest, as a sidecar has it.
+pub const INVENTORY: &str =
     r#"{"digestAlgorithm":"sha512","head":"v1","id":"abc","manifest":{"ddaf35a193617abacc417349ae20413112e6fa4e89a97ea20a9eeee64b55d39a2192992a274fc1a836ba3c23a3feebbd454d4423643ce80e2a9ac94fa54ca49f":["v1/content/a.txt"]},"type":"https://ocfl.io/1.1/spec/#inventory","versions":{"v1":{"created":"2024-05-01T12:00:00Z","message":"Migrated from Pairtree","state":{"ddaf35a193617abacc417349ae20413112e6fa4e89a97ea20a9eeee64b55d39a2192992a274fc1a836ba3c23a3feebbd454d4423643ce80e2a9ac94fa54ca49f":["a.txt"]},"user":{"name":"Ada"}}}}"#;
 
-const DIGEST: &str =
+pub const DIGEST: &str =
     "1eb21c66539478d2c419e0d996719da1e26c4c3d1ae2836137bbb99f412ba2fa2877b301344d7d7303197c96be4dbc6520706609ea235ea04f41f4f087a2d28c inventory.json\n";
 
 // Those of the object of equal contents.

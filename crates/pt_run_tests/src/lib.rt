@@ -1,7 +1,7 @@
 //! Tests of runs by the libraries' public calls: the definitions of a run over worked stores, and
 //! whole runs over trees in memory: their lines, what they leave, and how they end; and the lines
-//! and numbers of a check of a store, and of what a root has more. No code of the program stands on
-//! this crate.
+//! and numbers of a check of a store, of an audit, and of what a root has more. No code of the
+//! program stands on this crate.
 //!
 //! Read `Run` first (lines.rt): a row has the entries of a store as a text, what the job has that
 //! isn't as usual, and what comes of the run. Of the worked stores in specs/ the prover computes
@@ -10,6 +10,8 @@
 //! No guarantee of README rests on its definitions.
 #![tactic(auto)]
 
+#[cfg(test)]
+mod audits;
 #[cfg(test)]
 mod broken_runs;
 #[cfg(test)]

@@ -19,7 +19,7 @@ use Rattle.pt_audit.proofs.auditing.audit_objects.Goals as goal
 pub go_through-requires : goal.go_through-requires
 go_through-requires g c =
     let it = c.start.ensures.begun (g.S.Source.told c.args.source.now) (g.met.S.Source.proper c.args.source.now) in record {
-      under_way = first_step c.args.job _ _ _ _ _ _ c.start.ensures.new it c.none.ensures;
+      under_way = first_step c.args.task.job _ _ _ _ _ _ c.start.ensures.new it c.none.ensures;
       follows = record {
         follows = follows_first _ _ _ c.start.result c.new.ensures c.start.ensures.new.phase (surveys_first _ 0 _ it);
         more = begun_is_not_over c.start.ensures.new;
@@ -28,7 +28,8 @@ go_through-requires g c =
 
 pub returns-in_err-counts-clause-ends : goal.returns-in_err-counts-clause-ends
 returns-in_err-counts-clause-ends g c =
-    let start = start_over (tree_in (g.S.Source.told c.args.source.now)) (tree_in (g.R.Source.told c.args.root.now)) (g.L.Log.told c.args.log.now) in
+    let start = start_over c.args.task.by (tree_in (g.S.Source.told c.args.source.now)) (tree_in (g.R.Source.told c.args.root.now))
+    (g.L.Log.told c.args.log.now) in
     items_stopped c.from_residual.result c.in_err-counts.field-0.0 _ start _ (search rules)
     (subst (λ (job : Job). FrontToldAs (job_of job) start (g.L.Log.told c.go_through.new.log)) c.start.ensures.new.job_is c.in_err-counts.ensures.stops)
 
@@ -38,9 +39,10 @@ returns-in_err-counts-clause-made g c =
 
 pub returns-clause-ends : goal.returns-clause-ends
 returns-clause-ends g c =
-    let start = start_over (tree_in (g.S.Source.told c.args.source.now)) (tree_in (g.R.Source.told c.args.root.now)) (g.L.Log.told c.args.log.now) in
+    let start = start_over c.args.task.by (tree_in (g.S.Source.told c.args.source.now)) (tree_in (g.R.Source.told c.args.root.now))
+    (g.L.Log.told c.args.log.now) in
     let was = c.in_ok-counts.ensures.ends in
-    rw c.into_audit.ensures.counts (subst (λ (job : Job). AllToldAs (job_of job) start (g.L.Log.told c.go_through.new.log) c.in_ok-counts.counts)
+    rw c.into_audit.ensures.counts.1 (subst (λ (job : Job). AllToldAs (job_of job) start (g.L.Log.told c.go_through.new.log) c.in_ok-counts.counts)
     (was.1 ∙ c.start.ensures.new.job_is) was.0.told)
 
 pub returns-clause-layout : goal.returns-clause-layout
@@ -49,7 +51,7 @@ returns-clause-layout g c =
     subst (λ (job : Job). ForSome (tree_in (g.R.Source.told c.args.root.now)) (IsOfLayout (job_of job))) (was.1 ∙ c.start.ensures.new.job_is) was.0.layout
 
 pub returns-clause-made : goal.returns-clause-made
-returns-clause-made g c = rw c.into_audit.ensures.counts (made_within c.start.ensures.new c.in_ok-counts.ensures.made)
+returns-clause-made g c = rw c.into_audit.ensures.counts.1 (made_within c.start.ensures.new c.in_ok-counts.ensures.made)
 
 pub returns-in_err-counts-clause-blames : goal.returns-in_err-counts-clause-blames
 returns-in_err-counts-clause-blames g c =

@@ -15,7 +15,8 @@ returns-then-with_extras g c = rw c.if-with_extras.true c.audit_with_extras.ensu
 
 pub returns : goal.returns
 returns g c =
-    let job = c.args.job in
+    let task = c.args.task in
+    let job = task.job in
     let before = c.args.devices in
     let after = c.audit-audited.new in
     let store = tree_in (g.S.Source.told before.store) in
@@ -30,7 +31,7 @@ returns g c =
     it.blames in
     rw c.if-with_extras.false (record {
       ends = plain_logs (HasRisen (g.R.Source.failed before.root) (g.R.Source.failed after.root)) (job_of job)
-          (start_over store root (g.L.Log.told before.log)) (g.L.Log.told after.log) ran told is it.ends;
+          (start_over task.by store root (g.L.Log.told before.log)) (g.L.Log.told after.log) ran told is it.ends;
       layout = kept.ok;
       sides = it.keeps.sides;
       log = it.keeps.log;

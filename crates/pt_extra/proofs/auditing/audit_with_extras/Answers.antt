@@ -1,4 +1,4 @@
-use Rattle.std.proofs.Common.{ap, arith, subst, sym, ℕ, ◌≡◌, ◌≤◌}
+use Rattle.std.proofs.Common.{ap, arith, refl, subst, sym, ℕ, ◌≡◌, ◌≤◌}
 use Rattle.std.specs.Prelude.{IfOk, OnOk, Option, Result, Ok, Err}
 use Rattle.pt_audit.proofs.Bounding.{made_by}
 use Rattle.pt_audit.proofs.Saying.{blames_by, says_by}
@@ -33,7 +33,7 @@ whenever (Err e) it = tt
 
 pub returns-in-Ok : goal.returns-in-Ok
 returns-in-Ok g c =
-    let start = start_over (tree_in (g.S.Source.told c.args.devices.store)) (tree_in (g.R.Source.told c.args.devices.root))
+    let start = start_over c.args.task.by (tree_in (g.S.Source.told c.args.devices.store)) (tree_in (g.R.Source.told c.args.devices.root))
     (g.L.Log.told c.args.devices.log) in
     let mid = c.audit_objects-audited.new in
     let end = c.tell_rest.result.devices in
@@ -42,10 +42,10 @@ returns-in-Ok g c =
     let had = c.in-Ok.ensures.blames in
     let passed = fails.0 in
     let now = failures (g.S.Source.failed end.store) (g.R.Source.failed end.root) (g.L.Log.failed end.log) in record {
-      ends = subst (λ (n : ℕ). ExtraLogs (HasRisen n (g.R.Source.failed end.root)) (job_of c.args.job) start (g.L.Log.told end.log) ran) had.root
-          (extra_logs (HasRisen (g.R.Source.failed mid.root) (g.R.Source.failed end.root)) c.args.job start
+      ends = subst (λ (n : ℕ). ExtraLogs (HasRisen n (g.R.Source.failed end.root)) (job_of c.args.task.job) start (g.L.Log.told end.log) ran) had.root
+          (extra_logs (HasRisen (g.R.Source.failed mid.root) (g.R.Source.failed end.root)) c.args.task start
           (tree_in (g.S.Source.told mid.source)) (tree_in (g.R.Source.told mid.root))
-          (g.L.Log.told mid.log) (g.L.Log.told end.log) c.in-Ok.audited ran
+          (g.L.Log.told mid.log) (g.L.Log.told end.log) c.in-Ok.audited ran refl
           c.audit_objects-audited.ensures.keeps.sides.source.1 c.audit_objects-audited.ensures.keeps.sides.root.1 c.in-Ok.ensures.ends c.in-Ok.ensures.given
           c.tell_rest.ensures.told);
       layout = whenever ran c.in-Ok.ensures.layout;
@@ -65,14 +65,15 @@ returns-in-Ok g c =
       says = says_by ran _ _ _ _ _ fails.2;
       made = made_rest _ _ c.in-Ok.audited.counts ran c.tell_rest.ensures.counts c.in-Ok.ensures.made;
       holds = walk_holds_fields_alone;
-      unmet = whenever ran (subst (AreUnmetIn c.args.job start.source) (sym c.tell_rest.ensures.unmet) c.in-Ok.ensures.unmet);
+      unmet = whenever ran (subst (AreUnmetIn c.args.task.job start.source) (sym c.tell_rest.ensures.unmet) c.in-Ok.ensures.unmet);
     }
 
 pub returns-in-Err : goal.returns-in-Err
 returns-in-Err g c =
     let had = c.in-Err.ensures.blames in record {
-      ends = extra_stops _ (job_of c.args.job)
-          (start_over (tree_in (g.S.Source.told c.args.devices.store)) (tree_in (g.R.Source.told c.args.devices.root)) (g.L.Log.told c.args.devices.log))
+      ends = extra_stops _ (job_of c.args.task.job)
+          (start_over c.args.task.by (tree_in (g.S.Source.told c.args.devices.store)) (tree_in (g.R.Source.told c.args.devices.root))
+          (g.L.Log.told c.args.devices.log))
           _ c.in-Err.fault c.in-Err.ensures.ends;
       layout = tt;
       sides = c.in-Err.ensures.keeps.sides;

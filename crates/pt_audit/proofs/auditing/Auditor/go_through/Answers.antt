@@ -18,6 +18,7 @@ loop-more-init g c = (
   all_kept g.met.S.Source.is_kept g.met.R.Source.is_kept g.met.L.Log.is_kept _,
   refl,
   (0, NoStep),
+  refl,
 )
 
 pub returns-in_err-more-clause-keeps : goal.returns-in_err-more-clause-keeps
@@ -34,8 +35,8 @@ pub returns-then-not-more-clause-ends : goal.returns-then-not-more-clause-ends
 returns-then-not-more-clause-ends g c =
     let was = c.loop-more.invariant in
     let went = c.in_ok-more.ensures.made in (
-      same_end c.in_ok-more.more _ _ _ _ _ _ _ _ c.so_far-so_far.result c.go_on.new.self.survey (search rules) (search rules) (sym was.3.sides.source.1)
-          (sym was.3.sides.root.1) (went.on _ was.0),
+      same_end c.in_ok-more.more _ _ _ _ _ _ _ _ c.so_far-so_far.result c.go_on.new.self.survey (search rules) (search rules) (sym was.6)
+          (sym was.3.sides.source.1) (sym was.3.sides.root.1) (went.on _ was.0),
       went.steps.job ∙ was.2,
     )
 
@@ -52,7 +53,7 @@ returns-then-not-more-clause-made g c =
 pub returns-in_err-more-clause-stops : goal.returns-in_err-more-clause-stops
 returns-in_err-more-clause-stops g c =
     let was = c.loop-more.invariant in
-    same_stops c.from_residual.result c.in_err-more.field-0.0 c.args.self.now.survey.state.job _ _ _ _ _ _ _ (search rules) was.2
+    same_stops c.from_residual.result c.in_err-more.field-0.0 c.args.self.now.survey.state.job _ _ _ _ _ _ _ (search rules) was.2 was.6
     was.3.sides.source.1 was.3.sides.root.1 (c.in_err-more.ensures.made.stops _ was.0)
 
 pub returns-in_err-more-clause-made : goal.returns-in_err-more-clause-made
@@ -75,12 +76,13 @@ loop-more-preserved g c =
     let was = c.loop-more.invariant in
     let kept = c.in_ok-more.ensures.keeps in
     let went = c.in_ok-more.ensures.made in (
-      same_trees c.in_ok-more.more _ _ _ _ _ _ _ _ c.go_on.new.self.survey (search rules) kept.sides.source.1 kept.sides.root.1 (went.on _ was.0),
+      same_trees c.in_ok-more.more _ _ _ _ _ _ _ _ c.go_on.new.self.survey (search rules) went.by kept.sides.source.1 kept.sides.root.1 (went.on _ was.0),
       record { follows = went.follows; more = OnTrue_at {b = c.in_ok-more.more} (search rules) went.more },
       went.steps.job ∙ was.2,
       all_on g.met.S.Source.keeps_on g.met.R.Source.keeps_on g.met.L.Log.keeps_on _ _ _ was.3 kept,
       same_failures went.blamed.blames ∙ was.4,
       (_, OneMore was.5.1 (subst (λ (f : Option Forest). Steps f c.loop-more.self.survey c.go_on.new.self.survey) was.3.sides.source.1 went.steps)),
+      went.by ∙ was.6,
     )
 
 -- each step is one more within the limit

@@ -9,7 +9,7 @@ use Rattle.pt_audit.proofs.auditing.Auditor.go_through.Given as goal
 
 abbrev pub invariant-loop-more : goal.invariant-loop-more
 invariant-loop-more g l =
-    IsUnderWay (g.S.Source.told l.source) (start_over (tree_in (g.S.Source.told l.source)) (tree_in (g.R.Source.told l.root)) (g.L.Log.told l.fn.log))
+    IsUnderWay (g.S.Source.told l.source) (start_over l.self.by (tree_in (g.S.Source.told l.source)) (tree_in (g.R.Source.told l.root)) (g.L.Log.told l.fn.log))
     (g.L.Log.told l.log) l.self.counts l.self.survey
     × FollowsOn (g.S.Source.told l.source) (g.R.Source.told l.root) l.self.beside l.self.survey
     × (l.self.survey.state.job ≡ l.fn.self.survey.state.job)
@@ -17,6 +17,7 @@ invariant-loop-more g l =
     × (failures (g.S.Source.failed l.source) (g.R.Source.failed l.root) (g.L.Log.failed l.log)
     ≡ failures (g.S.Source.failed l.fn.source) (g.R.Source.failed l.fn.root) (g.L.Log.failed l.fn.log))
     × ((n : ℕ) × Surveyed (tree_in (g.S.Source.told l.fn.source)) l.fn.self.survey n l.self.survey)
+    × (l.self.by ≡ l.fn.self.by)
 
 abbrev pub decreases-loop-more : goal.decreases-loop-more
 decreases-loop-more g l = l.self.survey.state.job.limits.turns - l.self.survey.state.counts.turns
