@@ -1,6 +1,9 @@
+mod Counting
+mod CutTexts
 mod Cutting
 mod Escaping
 mod EventPuts
+mod ExpectedEnd
 mod Explained
 mod FaultTexts
 mod Grouping

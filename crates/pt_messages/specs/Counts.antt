@@ -2,6 +2,8 @@
 use Rattle.std.specs.List.{zip}
 use Rattle.std.specs.Prelude.{◌≡◌, ℕ, List, [], ◌∷◌, codes}
 use Rattle.serde_json.specs.Data.{number, unsigned, object, put, no_members}
+use Rattle.pt_audit.specs.CompareBy.{fitting_word}
+use Rattle.pt_audit.specs.declared.compare_by.CompareBy.{CompareBy}
 use Rattle.pt_messages.specs.Members.{JsonMembers}
 use Rattle.pt_messages.specs.declared.counted.LineCounts.{LineCounts}
 use Rattle.pt_messages.specs.declared.counted.Totals.{Totals}
@@ -11,10 +13,17 @@ use Rattle.pt_messages.specs.declared.watch.Words.TheVariants.{Audit, BothWays, 
 
 -- counts with what a run, an audit or a check says itself in the place of what was counted of it
 abbrev pub with_totals : Totals → LineCounts → LineCounts
-with_totals (total.Run done present skips) counts = record counts { well = done; present = present; skips = skips }
-with_totals (total.Audit same absent differs skips extra stray) counts =
-    record counts { well = same; absent = absent; differs = differs; skips = skips; extra = extra; stray = stray }
-with_totals (total.Check told objects files bytes) counts = record counts { told = told; well = objects; files = files; bytes = bytes }
+with_totals (total.Run run) counts = record counts { well = run.done; present = run.present; skips = run.skips }
+with_totals (total.Audit audit) counts = record counts {
+  well = audit.same;
+  absent = audit.absent;
+  differs = audit.differs;
+  skips = audit.skips;
+  extra = audit.extra;
+  stray = audit.stray;
+}
+with_totals (total.Check check) counts =
+    record counts { told = check.told; well = check.objects; files = check.files; bytes = check.bytes }
 
 -- counts have what it says itself
 abbrev pub HasTotals : Totals → LineCounts → Type 0
@@ -43,9 +52,9 @@ troubles = codes "missing" ∷ codes "unreadable" ∷ codes "prefix" ∷ codes "
     ∷ codes "name" ∷ codes "utf8" ∷ codes "reserved" ∷ codes "past" ∷ codes "spelling" ∷ codes "other" ∷ codes "long" ∷ codes "many" ∷ codes "large"
     ∷ codes "place" ∷ codes "width" ∷ codes "desktop" ∷ []
 
--- members with how many lines of objects an audit has of each kind
-abbrev pub put_audit_kinds : LineCounts → JsonMembers → JsonMembers
-put_audit_kinds counts members = put_count (codes "same") counts.well
+-- members with how many lines of objects an audit that compares this has of each kind
+abbrev pub put_audit_kinds : CompareBy → LineCounts → JsonMembers → JsonMembers
+put_audit_kinds by counts members = put_count (fitting_word by) counts.well
     (put_count (codes "differs") counts.differs (put_count (codes "absent") counts.absent members))
 
 -- members with how many skips there are
@@ -56,9 +65,9 @@ put_skip counts members = put_count (codes "skip") counts.skips members
 abbrev pub put_kinds : Words → LineCounts → JsonMembers → JsonMembers
 put_kinds Run counts members =
     put_skip counts (put_count (codes "present") counts.present (put_count (codes "done") counts.well members))
-put_kinds Audit counts members = put_skip counts (put_audit_kinds counts members)
-put_kinds BothWays counts members = put_skip counts
-    (put_count (codes "stray") counts.stray (put_count (codes "extra") counts.extra (put_audit_kinds counts members)))
+put_kinds (Audit by) counts members = put_skip counts (put_audit_kinds by counts members)
+put_kinds (BothWays by) counts members = put_skip counts
+    (put_count (codes "stray") counts.stray (put_count (codes "extra") counts.extra (put_audit_kinds by counts members)))
 put_kinds Check counts members = put_counts (zip troubles counts.kinds) members
 
 -- members with how many skips there are by their cause

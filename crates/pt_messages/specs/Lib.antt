@@ -1,9 +1,13 @@
+pub mod CountedPuts
+pub mod CountedPutsLaws
 pub mod Counts
+pub mod Cuts
 pub mod Escaped
 pub mod EventMembers
 pub mod Expected
 pub mod FaultLines
 pub mod Fields
+pub mod LineCounts
 pub mod Members
 pub mod Numbers
 pub mod Plain

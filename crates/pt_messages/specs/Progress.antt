@@ -6,7 +6,10 @@ use Rattle.pt_messages.specs.Numbers.{counted_text, grouped, size_text, time_tex
 use Rattle.pt_messages.specs.declared.progress.Moment.{Moment}
 use Rattle.pt_messages.specs.declared.tally.Seen.{Seen}
 use Rattle.pt_messages.specs.declared.watch.Words.{Words}
-use Rattle.pt_messages.specs.declared.watch.Words.TheVariants.{Check, Run}
+use Rattle.pt_messages.specs.declared.watch.Words.TheVariants.{Audit, BothWays, Check, Run}
+use Rattle.pt_audit.specs.CompareBy.{fitting_word}
+use Rattle.pt_audit.specs.declared.compare_by.CompareBy.{CompareBy}
+use Rattle.pt_audit.specs.declared.compare_by.CompareBy.TheVariants.{Bytes, Lengths}
 
 -- a number, or the largest of 64 bits where it is more
 abbrev pub bounded : ℕ → ℕ
@@ -30,11 +33,17 @@ abbrev pub lines_text : Seen → List ℕ → List ℕ → List ℕ
 lines_text seen carried other = grouped seen.done ++ (32 ∷ carried ++ (codes ", " ++ (grouped seen.present
     ++ (32 ∷ other ++ (codes ", " ++ (grouped seen.skipped ++ codes " skipped"))))))
 
+-- what is said of the objects of an audit that don't fit
+abbrev pub unfit_word : CompareBy → List ℕ
+unfit_word Bytes = codes "not the same"
+unfit_word Lengths = codes "not alike"
+
 -- what is counted, as its words have it
 abbrev pub seen_text : Words → Seen → List ℕ
 seen_text Run seen = lines_text seen (codes "done") (codes "present")
 seen_text Check seen = counted_text seen.met (codes "file or folder") (codes "files and folders")
-seen_text _ seen = lines_text seen (codes "same") (codes "not the same")
+seen_text (Audit by) seen = lines_text seen (fitting_word by) (unfit_word by)
+seen_text (BothWays by) seen = lines_text seen (fitting_word by) (unfit_word by)
 
 -- of so many that are expected so many are done: in percent, not rounded up, and the time that is left at the speed so far, unless none is done
 abbrev pub share_text : ℕ → ℕ → ℕ → List ℕ

@@ -1,7 +1,10 @@
 -- Why a fault came: a path, and a reason.
-use Rattle.std.specs.Prelude.{◌≡◌, ◌⊎◌, ⊤, ◌++◌, ℕ, IsSomeAnd, List, Option, None, Some, Result, Ok, Err, codes, string_bytes}
+use Rattle.std.specs.Prelude.{◌≡◌, ◌≢◌, ◌⊎◌, ⊤, ◌++◌, ℕ, IsSomeAnd, List, Option, None, Some, Result, Ok, Err, codes, string_bytes}
 use Rattle.std.specs.Option.{option_map}
+use Rattle.std.specs.IoError.{error_kind}
 use Rattle.std.specs.declared.alloc.AllocError.{AllocError}
+use Rattle.std.specs.declared.io.Error.{Error}
+use Rattle.std.specs.declared.io.ErrorKind.TheVariants.{NotFound}
 use Rattle.pt_folder.specs.declared.failure.Failure.{Failure}
 use Rattle.pt_messages.specs.Escaped.{escaped}
 use Rattle.pt_messages.specs.declared.reason.Explanation.{Explanation}
@@ -18,6 +21,12 @@ IsAt path text found = IsSomeAnd found (λ why. (string_bytes why.path ≡ path)
 -- the line by which a reason is told, without LF
 abbrev pub reason_line : FaultReason → List ℕ
 reason_line why = codes "pairtree2ocfl: " ++ (escaped (string_bytes why.path) ++ (codes ": " ++ string_bytes why.reason))
+
+-- a destination that isn't there isn't told of; one that can't be locked is told with the reason that the system gives, without LF
+abbrev pub IsUnlockedLine : List ℕ → Error → Option (List ℕ) → Type 0
+IsUnlockedLine dest error None = error_kind error ≡ NotFound
+IsUnlockedLine dest error (Some line) = (error_kind error ≢ NotFound)
+    × ((reason : List ℕ) × (line ≡ codes "pairtree2ocfl: " ++ (escaped dest ++ (codes ": it is not locked: " ++ reason))))
 
 -- of a call that failed its path is told, with the system's text or the folder's; where none did, nothing
 abbrev pub IsOfFailure : Option Failure → Option FaultReason → Type 0

@@ -1,14 +1,21 @@
 //! A log whose lines are counted, for the summary at the end.
-ghost use Rattle.std.specs.List.{zip};
+ghost use Rattle.std.specs.List.{position, zip};
 ghost use Rattle.std.specs.Prelude.{◌≡◌, IfOk, OnOk, map};
+ghost use Rattle.std.specs.Str.{bytes_eq};
+ghost use Rattle.pt_messages.specs.CountedPutsLaws.{counts_on, none_counted};
+ghost use Rattle.pt_messages.specs.CountedPuts.{CountsPieces, with_piece};
 ghost use Rattle.pt_messages.specs.Counts.{put_audit_kinds, put_beside, put_counts, put_kinds};
 ghost use Rattle.pt_messages.specs.Counts.{put_line_counts, put_skips, with_totals};
 ghost use Rattle.pt_messages.specs.Fields.{IsOnlyCounted};
+ghost use Rattle.pt_messages.specs.LineCounts.{kind_named as kind_by_word, no_lines, with_kind};
+ghost use Rattle.pt_messages.specs.LineCounts.{with_line, with_word};
 ghost use Rattle.pt_messages.specs.Members.{members_of};
 
+use crate::line::{LineKind, kind_named, kind_of, last_word, number_behind};
 use crate::members::Members;
 use crate::numbers::{count_text, group_digits, size};
 use crate::watch::Words;
+use pt_audit::CompareBy;
 use pt_tree::{Log, TreeFault};
 use std::alloc::{AllocError, Global};
 
@@ -70,44 +77,57 @@ pub struct LineCounts {
 #[derive(Clone, Copy)]
 pub enum Totals {
     /// Of a run.
-    Run {
-        /// The objects that were carried.
-        done: u64,
-        /// Those whose place was taken.
-        present: u64,
-        /// What was passed over.
-        skips: u64,
-    },
+    Run(RunTotals),
     /// Of an audit.
-    Audit {
-        /// The objects that are the same.
-        same: u64,
-        /// Those at whose place nothing stands.
-        absent: u64,
-        /// Those that differ.
-        differs: u64,
-        /// What was passed over.
-        skips: u64,
-        /// The objects that the store lacks.
-        extra: u64,
-        /// What else stands there and isn't of it.
-        stray: u64,
-    },
+    Audit(AuditTotals),
     /// Of a check.
-    Check {
-        /// The lines.
-        told: u64,
-        /// The objects that were met.
-        objects: u64,
-        /// The files that were met.
-        files: u64,
-        /// The bytes that were read.
-        bytes: u64,
-    },
+    Check(CheckTotals),
+}
+
+/// What a run says itself.
+#[derive(Clone, Copy)]
+pub struct RunTotals {
+    /// The objects that were carried.
+    pub done: u64,
+    /// Those whose place was taken.
+    pub present: u64,
+    /// What was passed over.
+    pub skips: u64,
+}
+
+/// What an audit says itself.
+#[derive(Clone, Copy)]
+pub struct AuditTotals {
+    /// The objects that are the same.
+    pub same: u64,
+    /// Those at whose place nothing stands.
+    pub absent: u64,
+    /// Those that differ.
+    pub differs: u64,
+    /// What was passed over.
+    pub skips: u64,
+    /// The objects that the store lacks.
+    pub extra: u64,
+    /// What else stands there and isn't of it.
+    pub stray: u64,
+}
+
+/// What a check says itself.
+#[derive(Clone, Copy)]
+pub struct CheckTotals {
+    /// The lines.
+    pub told: u64,
+    /// The objects that were met.
+    pub objects: u64,
+    /// The files that were met.
+    pub files: u64,
+    /// The bytes that were read.
+    pub bytes: u64,
 }
 
 /// A log whose lines are counted where that is wanted, and is the log in all else. Each piece that
-/// it gets is a line.
+/// it gets is a line, and what it `keeps` says that just those were counted which were put since
+/// (`CountsPieces`).
 #[derive(Drop)]
 pub struct CountedLog<L: Log> {
     log: L,
@@ -119,6 +139,8 @@ impl<L: Log> CountedLog<L> {
     /// A log, of whose lines none was counted yet, and whether they are to be.
     pub fn new(log: L, counting: bool) -> CountedLog<L>
         ensures log { result.log ≡ log }
+        ensures counts { result.counts ≡ no_lines }
+        ensures counting { result.counting ≡ counting }
         ensures fields { IsOnlyCounted result }
     {
         CountedLog {
@@ -129,7 +151,9 @@ impl<L: Log> CountedLog<L> {
     }
 
     /// The lines so far.
-    pub fn counts(&self) -> LineCounts {
+    pub fn counts(&self) -> LineCounts
+        ensures { result ≡ self.now.counts }
+    {
         self.counts
     }
 
@@ -146,11 +170,14 @@ impl<L: Log> Log for CountedLog<L> {
 
     ghost failed = { λ w. L.failed w.log };
 
-    ghost keeps = { λ a b. L.keeps a.log b.log };
+    ghost keeps = { λ a b. L.keeps a.log b.log × CountsPieces L.told L.failed L.keeps a b };
 
-    ghost is_kept = { λ a. L.is_kept a.log };
+    ghost is_kept = { λ a. (L.is_kept a.log, none_counted L.told L.failed L.keeps a) };
 
-    ghost keeps_on = { λ a b c p q. L.keeps_on a.log b.log c.log p q };
+    ghost keeps_on = { λ a b c p q. (
+      L.keeps_on a.log b.log c.log p.0 q.0,
+      counts_on L.told L.failed L.keeps a b c p.1 q.1,
+    ) };
 
     fn failures(&self) -> u64 {
         self.log.failures()
@@ -158,10 +185,8 @@ impl<L: Log> Log for CountedLog<L> {
 
     fn put(&mut self, piece: &[u8]) -> Result<(), TreeFault> {
         self.log.put(piece)?;
-        if self.counting
-            && let Ok(line) = str::from_utf8(piece)
-        {
-            self.counts.add(line);
+        if self.counting {
+            self.counts.add_piece(piece);
         }
         Ok(())
     }
@@ -169,7 +194,9 @@ impl<L: Log> Log for CountedLog<L> {
 
 impl LineCounts {
     /// No lines.
-    pub fn none() -> LineCounts {
+    pub fn none() -> LineCounts
+        ensures { result ≡ no_lines }
+    {
         LineCounts {
             well: 0,
             files: 0,
@@ -192,74 +219,80 @@ impl LineCounts {
         ensures { result ≡ with_totals totals self }
     {
         match totals {
-            Totals::Run {
-                done,
-                present,
-                skips,
-            } => LineCounts {
-                well: done,
-                present,
-                skips,
+            Totals::Run(run) => LineCounts {
+                well: run.done,
+                present: run.present,
+                skips: run.skips,
                 ..self
             },
-            Totals::Audit {
-                same,
-                absent,
-                differs,
-                skips,
-                extra,
-                stray,
-            } => LineCounts {
-                well: same,
-                absent,
-                differs,
-                skips,
-                extra,
-                stray,
+            Totals::Audit(audit) => LineCounts {
+                well: audit.same,
+                absent: audit.absent,
+                differs: audit.differs,
+                skips: audit.skips,
+                extra: audit.extra,
+                stray: audit.stray,
                 ..self
             },
-            Totals::Check {
-                told,
-                objects,
-                files,
-                bytes,
-            } => LineCounts {
-                told,
-                well: objects,
-                files,
-                bytes,
+            Totals::Check(check) => LineCounts {
+                told: check.told,
+                well: check.objects,
+                files: check.files,
+                bytes: check.bytes,
                 ..self
             },
         }
     }
 
-    // One more line. An end line is none of these.
-    fn add(&mut self, line: &str) {
-        let Some((kind, rest)) = kind_of(line) else {
-            return;
-        };
-        match kind {
-            "done" | "same" => {
+    // One more line, if a piece is a text.
+    fn add_piece(&mut self, piece: &[u8])
+        ensures { self.new ≡ with_piece piece.now self.old }
+    {
+        match str::from_utf8(piece) {
+            Ok(line) => self.add(line),
+            Err(_) => {}
+        }
+    }
+
+    // One more line.
+    fn add(&mut self, line: &str)
+        ensures { self.new ≡ with_line line.now self.old }
+    {
+        if let Some((word, rest)) = kind_of(line) {
+            self.add_of(word, rest);
+        }
+    }
+
+    // One more line with this word, behind which the rest comes. An end line isn't counted.
+    fn add_of(&mut self, word: &str, rest: &str)
+        ensures { self.new ≡ with_kind (kind_by_word word.now) (word.now, rest.now) self.old }
+    {
+        match kind_named(word) {
+            LineKind::Carried => {
                 self.well = self.well.saturating_add(1);
-                self.bytes = self.bytes.saturating_add(number_at(rest, ",\"bytes\":"));
-                self.files = self.files.saturating_add(number_at(rest, ",\"files\":"));
+                self.bytes = self
+                    .bytes
+                    .saturating_add(number_behind(rest, ",\"bytes\":"));
+                self.files = self
+                    .files
+                    .saturating_add(number_behind(rest, ",\"files\":"));
             }
-            "present" => self.present = self.present.saturating_add(1),
-            "absent" => self.absent = self.absent.saturating_add(1),
-            "extra" => self.extra = self.extra.saturating_add(1),
-            "stray" => self.stray = self.stray.saturating_add(1),
-            "differs" => {
+            LineKind::Present => self.present = self.present.saturating_add(1),
+            LineKind::Absent => self.absent = self.absent.saturating_add(1),
+            LineKind::Extra => self.extra = self.extra.saturating_add(1),
+            LineKind::Stray => self.stray = self.stray.saturating_add(1),
+            LineKind::Differs => {
                 self.differs = self.differs.saturating_add(1);
                 add_word(&REASONS, &mut self.differing, last_word(rest));
             }
-            "skip" => {
+            LineKind::Skipped => {
                 self.skips = self.skips.saturating_add(1);
                 add_word(&CAUSES, &mut self.skipped, last_word(rest));
             }
-            "end" => {}
-            kind => {
+            LineKind::End => {}
+            LineKind::Trouble => {
                 self.told = self.told.saturating_add(1);
-                add_word(&TROUBLES, &mut self.kinds, kind);
+                add_word(&TROUBLES, &mut self.kinds, word);
             }
         }
     }
@@ -286,7 +319,7 @@ impl LineCounts {
     {
         match words {
             Words::Run => self.put_skips(event),
-            Words::Audit | Words::BothWays => {
+            Words::Audit(_) | Words::BothWays(_) => {
                 self.put_skips(event)?;
                 let whys = with_counts(event.empty(), &REASONS, &self.differing)?;
                 event.put_members("differs", whys)
@@ -314,9 +347,9 @@ impl LineCounts {
                 lines.put_number("done", self.well)?;
                 lines.put_number("present", self.present)?;
             }
-            Words::Audit => self.put_audit_kinds(&mut lines)?,
-            Words::BothWays => {
-                self.put_audit_kinds(&mut lines)?;
+            Words::Audit(by) => self.put_audit_kinds(&mut lines, by)?,
+            Words::BothWays(by) => {
+                self.put_audit_kinds(&mut lines, by)?;
                 lines.put_number("extra", self.extra)?;
                 lines.put_number("stray", self.stray)?;
             }
@@ -326,46 +359,58 @@ impl LineCounts {
         Ok(lines)
     }
 
-    // Puts how many lines of objects an audit has of each kind.
-    fn put_audit_kinds(&self, lines: &mut Members) -> Result<(), AllocError>
+    // Puts how many lines of objects an audit that compares this has of each kind.
+    fn put_audit_kinds(&self, lines: &mut Members, by: CompareBy) -> Result<(), AllocError>
         ensures { OnOk result (members_of lines.new
-            ≡ put_audit_kinds self.now (members_of lines.old)) }
+            ≡ put_audit_kinds by self.now (members_of lines.old)) }
     {
         lines.put_number("absent", self.absent)?;
         lines.put_number("differs", self.differs)?;
-        lines.put_number("same", self.well)
+        lines.put_number(by.fitting_word(), self.well)
     }
 
     /// How many lines there are of each kind, and what the objects that were carried, or are the
     /// same, hold: as `200 done, 1 present, 9 skipped (split 7, other 2), 1,560 files, 7.1 MB`. Of
-    /// a check: `200 objects, 9 told (unreadable 2, split 7), 1,560 files, 7.1 MB read`.
+    /// a check: `200 objects, 9 told (unreadable 2, split 7), 1,560 files, 7.1 MB read`. Of an audit
+    /// by lengths no bytes are said, since none were read.
     pub(crate) fn summary(&self, alloc: Global, words: Words) -> Result<String, AllocError> {
         let well = group_digits(alloc, self.well)?;
         let skipped = with_words(alloc, (self.skips, "skipped"), &CAUSES, &self.skipped)?;
-        let files = count_text(alloc, self.files, "file", "files")?;
-        let bytes = size(alloc, self.bytes)?;
+        let held = self.held(alloc, words)?;
         match words {
             Words::Run => {
                 let present = group_digits(alloc, self.present)?;
-                format!(in alloc; "{well} done, {present} present, {skipped}, {files}, {bytes}")
+                format!(in alloc; "{well} done, {present} present, {skipped}, {held}")
             }
-            Words::Audit => {
+            Words::Audit(by) => {
+                let fitting = by.fitting_word();
                 let others = self.others(alloc)?;
-                format!(in alloc; "{well} same, {others}, {skipped}, {files}, {bytes}")
+                format!(in alloc; "{well} {fitting}, {others}, {skipped}, {held}")
             }
-            Words::BothWays => {
+            Words::BothWays(by) => {
+                let fitting = by.fitting_word();
                 let others = self.others(alloc)?;
                 let extra = group_digits(alloc, self.extra)?;
                 let stray = group_digits(alloc, self.stray)?;
                 format!(in alloc;
-                    "{well} same, {others}, {extra} extra, {stray} stray, {skipped}, {files}, {bytes}"
+                    "{well} {fitting}, {others}, {extra} extra, {stray} stray, {skipped}, {held}"
                 )
             }
             Words::Check => {
                 let objects = count_text(alloc, self.well, "object", "objects")?;
                 let told = with_words(alloc, (self.told, "told"), &TROUBLES, &self.kinds)?;
-                format!(in alloc; "{objects}, {told}, {files}, {bytes} read")
+                format!(in alloc; "{objects}, {told}, {held} read")
             }
+        }
+    }
+
+    // How many files there are, and how many bytes they have, where these were read.
+    fn held(&self, alloc: Global, words: Words) -> Result<String, AllocError> {
+        let files = count_text(alloc, self.files, "file", "files")?;
+        let bytes = size(alloc, self.bytes)?;
+        match words {
+            Words::Audit(CompareBy::Lengths) | Words::BothWays(CompareBy::Lengths) => Ok(files),
+            _ => format!(in alloc; "{files}, {bytes}"),
         }
     }
 
@@ -382,38 +427,23 @@ impl LineCounts {
     }
 }
 
-// What a line says under "as", and what follows.
-fn kind_of(line: &str) -> Option<(&str, &str)> {
-    line.strip_prefix("{\"as\":\"")?.split_once('"')
-}
-
-// The number behind a comma and a key, 0 where there is none. In a text of JSON no `"` stands right
-// behind a comma, so what is found is the key.
-fn number_at(rest: &str, key: &str) -> u64 {
-    match rest.split_once(key) {
-        Some((_, after)) => match after.split_once(',') {
-            Some((number, _)) => number.parse().unwrap_or(0),
-            None => 0,
-        },
-        None => 0,
-    }
-}
-
-// The text that ends a line: that of its last key.
-fn last_word(rest: &str) -> &str {
-    match rest.rsplit_once(":\"") {
-        Some((_, end)) => end.strip_suffix("\"}\n").unwrap_or(end),
-        None => "",
-    }
-}
-
 // One more of a word, if it is one of these.
-fn add_word(words: &[&str], counts: &mut [u64], word: &str) {
-    for (known, count) in words.iter().zip(counts.iter_mut()) {
-        if *known == word {
-            *count = count.saturating_add(1);
-        }
+fn add_word(words: &[&str], counts: &mut [u64], word: &str)
+    ensures { counts.new ≡ with_word (map (λ known. known.now) words.now) word.now counts.old }
+{
+    let Some(at) = place_of(words, word) else {
+        return;
+    };
+    if at < counts.len() {
+        counts[at] = counts[at].saturating_add(1);
     }
+}
+
+// Where a word stands first among these.
+fn place_of(words: &[&str], word: &str) -> Option<usize>
+    ensures { result ≡ position (λ known. bytes_eq known.now word.now) words.now }
+{
+    words.iter().position(|known| *known == word)
 }
 
 // How many there are of each word.

@@ -40,7 +40,7 @@ impl Words {
     {
         match self {
             Words::Run => "pairtree2ocfl: fault 2: cannot write the destination\n",
-            Words::Audit | Words::BothWays | Words::Check => {
+            Words::Audit(_) | Words::BothWays(_) | Words::Check => {
                 "pairtree2ocfl: fault 2: cannot read the destination\n"
             }
         }

@@ -17,11 +17,11 @@
 //!   (`IsOfFault`).
 //! - `line_of` gives the line of a fault, with its number and its own text (`fault_line`).
 //! - `Watch` and `CountedLog` have the fields that Fields.antt lists, and no other: nothing that
-//!   grows with a run.
+//!   grows with a run. What `CountedLog` counts is just the lines put since (`CountsPieces`).
 //! - `Reads` is what can be read of files beside a run: the end of a log, a list of identifiers,
 //!   and a store's prefix. Its calls change nothing. `lines_expected` asks for the end of the log
-//!   that is named, if one is (`AsksEnd`): how long it is, and then for its last bytes. What it
-//!   makes of them is shown only.
+//!   that is named, if one is (`AsksEnd`): how long it is, and then for its last bytes. It gives
+//!   what the end line there counts (`CountsEnd`), which is shown only.
 //! - `Event` is the record of a run, an audit or a check that `--event` asks for, as a text; who
 //!   calls it writes that. Its members are those that were put (`BeginsAs`, `PutsFolder`,
 //!   `EndsSo`).
@@ -33,6 +33,7 @@ mod counted;
 mod event;
 mod expected;
 mod fault_lines;
+mod line;
 mod members;
 mod numbers;
 pub mod prefix;
@@ -44,7 +45,7 @@ mod tally;
 mod terminal;
 mod watch;
 
-pub use counted::{CountedLog, LineCounts, Totals};
+pub use counted::{AuditTotals, CheckTotals, CountedLog, LineCounts, RunTotals, Totals};
 pub use event::{Event, Outcome, VERSION};
 pub use expected::{entries_expected, lines_expected};
 pub use members::Members;

@@ -4,12 +4,13 @@ ghost use Rattle.std.specs.Str.{chars, encode_utf8_all};
 ghost use Rattle.pt_messages.specs.Progress.{ahead_text, count_so_far, cut_line, lines_text};
 ghost use Rattle.pt_messages.specs.Progress.{over_text};
 ghost use Rattle.pt_messages.specs.Progress.{per_second, progress_text, seen_text, share_text};
-ghost use Rattle.pt_messages.specs.Progress.{speed_text, summary_text};
+ghost use Rattle.pt_messages.specs.Progress.{speed_text, summary_text, unfit_word};
 
 use crate::numbers::{count_text, group_digits, size, time};
 use crate::shown::escape;
 use crate::tally::Seen;
 use crate::watch::Words;
+use pt_audit::CompareBy;
 use std::alloc::{AllocError, Global};
 
 /// How far a run, an audit or a check is at a moment.
@@ -43,7 +44,7 @@ impl Moment {
     {
         match self.words {
             Words::Check => self.seen.met,
-            Words::Run | Words::Audit | Words::BothWays => self.seen.lines(),
+            Words::Run | Words::Audit(_) | Words::BothWays(_) => self.seen.lines(),
         }
     }
 
@@ -69,7 +70,9 @@ impl Moment {
     {
         match self.words {
             Words::Run => self.lines(alloc, "done", "present"),
-            Words::Audit | Words::BothWays => self.lines(alloc, "same", "not the same"),
+            Words::Audit(by) | Words::BothWays(by) => {
+                self.lines(alloc, by.fitting_word(), other_word(by))
+            }
             Words::Check => count_text(alloc, self.seen.met, "file or folder", "files and folders"),
         }
     }
@@ -96,6 +99,16 @@ impl Moment {
         let read = size(alloc, self.seen.bytes)?;
         let at = escape(alloc, at)?;
         format!(in alloc; "{passed}, {places}/s, {speed}/s, {read} read, at {at}")
+    }
+}
+
+// What is said of the objects of an audit that don't fit.
+fn other_word(by: CompareBy) -> &'static str
+    ensures { result.now ≡ unfit_word by }
+{
+    match by {
+        CompareBy::Bytes => "not the same",
+        CompareBy::Lengths => "not alike",
     }
 }
 

@@ -5,7 +5,8 @@ ghost use Rattle.std.specs.Prelude.{◌≡◌, IfOk, OnOk, string_bytes};
 ghost use Rattle.pt_folder.specs.HostSource.{failure_of};
 ghost use Rattle.pt_messages.specs.Members.{PutsWhy, members_of};
 ghost use Rattle.pt_messages.specs.Reasons.{Explains, IsAt, IsOfFailure, IsOfFault};
-ghost use Rattle.pt_messages.specs.Reasons.{IsOfNoStore, explanation_of, reason_line};
+ghost use Rattle.pt_messages.specs.Reasons.{IsOfNoStore, IsUnlockedLine, explanation_of};
+ghost use Rattle.pt_messages.specs.Reasons.{reason_line};
 
 use crate::members::Members;
 use crate::reads::Reads;
@@ -235,22 +236,28 @@ pub fn tell<R: Eprint + AllocGlobal>(rt: &R, why: &FaultReason) {
 
 /// Tells standard error why a destination that is there can't be locked.
 pub fn tell_unlocked<R: Eprint + AllocGlobal>(rt: &R, dest: &str, error: &io::Error) {
+    if let Ok(Some(line)) = unlocked_line(rt.alloc(), dest, error) {
+        let _ = eprintln!(rt; "{line}");
+    }
+}
+
+// The line by which it is told why a destination can't be locked, without LF; none where it isn't
+// there. An error where a growth was refused.
+fn unlocked_line(alloc: Global, dest: &str, error: &io::Error) -> Result<Option<String>, AllocError>
+    ensures { IfOk result (λ line. IsUnlockedLine dest.now error.now
+        (option_map string_bytes line)) }
+{
     if error.kind() == ErrorKind::NotFound {
-        return;
+        return Ok(None);
     }
-    if let Ok(path) = escape(rt.alloc(), dest) {
-        let _ = eprintln!(rt; "pairtree2ocfl: {path}: it is not locked: {error}");
-    }
+    let path = escape(alloc, dest)?;
+    let reason = error.to_string(alloc)?;
+    Ok(Some(format!(in alloc; "pairtree2ocfl: {path}: it is not locked: {reason}")?))
 }
 
 /// Tells standard error why the log's file can't be put onto its disk.
 pub fn tell_unsynced<R: Eprint>(rt: &R, error: &io::Error) {
     let _ = eprintln!(rt; "pairtree2ocfl: the log's file will not be put onto its disk: {error}");
-}
-
-/// Tells standard error that the file of an event can't be written.
-pub fn tell_unwritten<R: Eprint>(rt: &R, error: &io::Error) {
-    let _ = eprintln!(rt; "pairtree2ocfl: cannot write FILE of --event: {error}");
 }
 
 /// Tells standard error how many entries were left out by their names, if that is wanted.

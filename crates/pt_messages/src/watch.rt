@@ -9,6 +9,7 @@ use crate::counted::LineCounts;
 use crate::progress::{Moment, over, summary};
 use crate::tally::Tally;
 use crate::terminal::{Terminals, columns};
+use pt_audit::CompareBy;
 use pt_tree::{NamePath, Watcher};
 use std::alloc::{AllocError, AllocGlobal, Global};
 use std::rt::Clock;
@@ -50,10 +51,10 @@ pub struct Watching {
 pub enum Words {
     /// Those of a run.
     Run,
-    /// Those of an audit.
-    Audit,
+    /// Those of an audit, which compares this.
+    Audit(CompareBy),
     /// Those of an audit that tells of what the store lacks too.
-    BothWays,
+    BothWays(CompareBy),
     /// Those of a check.
     Check,
 }
