@@ -60,11 +60,15 @@ pub record AreInnerPaths (source dest : List ℕ) (inner : InnerPaths) : Type 0 
   pub root : string_bytes inner.root ≡ dest ++ codes "/ocfl"
   pub staging : string_bytes inner.staging ≡ dest ++ codes "/staging"
 
+-- the path of a store's `pairtree_root`
+abbrev pub tree_of : List ℕ → List ℕ
+tree_of source = source ++ codes "/pairtree_root"
+
 -- those of a store and a destination, which is to hold `ocfl` and `staging`
 abbrev pub folders_of : List ℕ → List ℕ → Folders
 folders_of source dest = record {
   source = source;
-  tree = source ++ codes "/pairtree_root";
+  tree = tree_of source;
   dest = dest;
   root = dest ++ codes "/ocfl";
   staging = dest ++ codes "/staging";

@@ -2,7 +2,7 @@
 use Rattle.std.specs.Prelude.{◌≡◌, ◌⊎◌, ◌==◌, ◌||◌, ℕ, Bool, false, List, Option, Some, None, MatchBool, Result, Ok, Err, length, codes, if◌then◌else◌}
 use Rattle.std.specs.Path.{path_file_name, path_parent}
 use Rattle.std.specs.Str.{bytes_eq}
-use Rattle.pt_guard.specs.Apart.{Ends, Folders, InEither, LiesIn, OrElse, folders_of}
+use Rattle.pt_guard.specs.Apart.{Ends, Folders, InEither, LiesIn, OrElse, folders_of, tree_of}
 use Rattle.pt_guard.specs.PlaceCall.{PlaceCall}
 use Rattle.pt_guard.specs.declared.apart.FilePlace as own
 use Rattle.pt_guard.specs.declared.apart.Nesting.{Nesting}
@@ -48,12 +48,13 @@ module _ {S L : Type 0} (does : S → PlaceCall L → S → Type 0) where
   FindsFile at place = OrElse (InEither does place.folder (at.source, at.tree))
       (OrElse (InEither does place.folder (at.root, at.staging)) (FindsNamed place at.dest))
 
-  -- the same of a file at a path, beside a store and a destination
-  abbrev pub FileLies : List ℕ × List ℕ → List ℕ → S → S → Nesting → Type 0
-  FileLies folders file = FindsFile (folders_of folders.0 folders.1) (place_at file)
+  -- the same of a file at a path, beside a store and a destination; where there is none it is asked in the store or its `pairtree_root` alone
+  abbrev pub FileLies : List ℕ × Option (List ℕ) → List ℕ → S → S → Nesting → Type 0
+  FileLies (source, None) file = InEither does (place_at file).folder (source, tree_of source)
+  FileLies (source, Some dest) file = FindsFile (folders_of source dest) (place_at file)
 
   -- a file may be made there where it lies apart of all; memory was wanting for a text before anything was asked, or for an answer of the system
-  abbrev pub JudgesFile : List ℕ × List ℕ → List ℕ → S → S → Result (Unit {0}) FileFault → Type 0
+  abbrev pub JudgesFile : List ℕ × Option (List ℕ) → List ℕ → S → S → Result (Unit {0}) FileFault → Type 0
   JudgesFile folders file old new (Ok done) = FileLies folders file old new Apart
   JudgesFile folders file old new (Err fault.Inside) = FileLies folders file old new Inside
   JudgesFile folders file old new (Err fault.Hidden) = FileLies folders file old new Unknown

@@ -8,7 +8,7 @@ ghost use Rattle.std.specs.IoError.{error_kind};
 ghost use Rattle.std.specs.Path.{path_buf_bytes};
 ghost use Rattle.pt_guard.specs.Apart.{AreInnerPaths, Finds, InEither, IsHeld, IsUnresolved};
 ghost use Rattle.pt_guard.specs.Apart.{LiesIn, Overlaps};
-ghost use Rattle.pt_guard.specs.Apart.{SearchesAncestors, folders_in, folders_of, lie_of};
+ghost use Rattle.pt_guard.specs.Apart.{SearchesAncestors, folders_in, folders_of, lie_of, tree_of};
 ghost use Rattle.pt_guard.specs.FilePlace.{FindsFile, FindsNamed, place_of};
 
 use crate::places::{FileId, Places, is_wanting};
@@ -164,6 +164,22 @@ pub(crate) fn surroundings<S: Places>(
     let inner = inner_paths(alloc, source, dest)?;
     let paths = inner.run_paths(source, dest);
     Ok(paths.first_around(system, alloc, file))
+}
+
+/// Whether a folder that a file is to be made in lies in a store or in its `pairtree_root`; the
+/// first answer that isn't `Apart`. An error as of `surroundings`.
+pub(crate) fn around_store<S: Places>(
+    system: &mut S,
+    alloc: Global,
+    folder: &str,
+    source: &str,
+) -> Result<Nesting, AllocError>
+    ensures err { IfErr result (λ _. system.new ≡ system.old) }
+    ensures ok { IfOk result (λ lie.
+        InEither S.does folder.now (source.now, tree_of source.now) system.old system.new lie) }
+{
+    let tree = below(alloc, source, TREE)?;
+    Ok(in_either(system, alloc, folder, (source, tree.as_str())))
 }
 
 /// Where a file is to be made: its folder, and whether it has the name of what a destination is to

@@ -1,10 +1,10 @@
 //! Whether a file may be made at a path: where no run and no audit reads, and none makes anything.
 //! It is asked of the file's folder as of a run's (`FindsFile`).
-ghost use Rattle.std.specs.Prelude.{◌≡◌};
+ghost use Rattle.std.specs.Prelude.{◌≡◌, IfErr, IfOk, option_map};
 ghost use Rattle.std.specs.Path.{path_file_name, path_parent};
-ghost use Rattle.pt_guard.specs.FilePlace.{JudgesFile, folder_in, is_named_so};
+ghost use Rattle.pt_guard.specs.FilePlace.{FileLies, JudgesFile, folder_in, is_named_so};
 
-use crate::apart::{FilePlace, Nesting, surroundings};
+use crate::apart::{FilePlace, Nesting, around_store, surroundings};
 use crate::places::Places;
 use std::alloc::{AllocError, Global};
 use std::path::Path;
@@ -36,8 +36,8 @@ impl From<AllocError> for FileFault {
     }
 }
 
-/// Whether a file may be made at a path, beside a run or an audit between two folders. What stands
-/// at the path isn't asked for.
+/// Whether a file may be made at a path, beside a run or an audit between two folders, or beside a
+/// check of a store, which has no destination. What stands at the path isn't asked for.
 ///
 /// `Inside` where its folder, links resolved, is the store, its `pairtree_root`, or `ocfl` or
 /// `staging` of the destination, or lies in one, or is so by what the system knows it by; and where
@@ -49,19 +49,40 @@ pub fn judge_file<S: Places>(
     alloc: Global,
     file: &str,
     source: &str,
-    dest: &str,
+    dest: Option<&str>,
 ) -> Result<(), FileFault>
-    ensures { JudgesFile S.does (source.now, dest.now) file.now system.old system.new result }
+    ensures { JudgesFile S.does (source.now, option_map (λ dest. dest.now) dest.entry) file.now
+        system.old system.new result }
 {
-    let place = FilePlace {
-        folder: folder_of(file),
-        is_named: has_kept_name(file),
-    };
-    match surroundings(system, alloc, place, source, dest)? {
+    match nesting_of_file(system, alloc, file, source, dest)? {
         Nesting::Apart => Ok(()),
         Nesting::Inside => Err(FileFault::Inside),
         Nesting::Unknown => Err(FileFault::Hidden),
         Nesting::Wanting => Err(FileFault::Memory),
+    }
+}
+
+// Whether a file at a path would lie where none may be made.
+fn nesting_of_file<S: Places>(
+    system: &mut S,
+    alloc: Global,
+    file: &str,
+    source: &str,
+    dest: Option<&str>,
+) -> Result<Nesting, AllocError>
+    ensures err { IfErr result (λ _. system.new ≡ system.old) }
+    ensures ok { IfOk result (λ lie.
+        FileLies S.does (source.now, option_map (λ dest. dest.now) dest.entry) file.now
+        system.old system.new lie) }
+{
+    let folder = folder_of(file);
+    let is_named = has_kept_name(file);
+    match dest {
+        Some(dest) => {
+            let place = FilePlace { folder, is_named };
+            surroundings(system, alloc, place, source, dest)
+        }
+        None => around_store(system, alloc, folder, source),
     }
 }
 

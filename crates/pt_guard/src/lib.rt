@@ -27,8 +27,8 @@
 //!   its names, and then for the lock (`AsksFolder`).
 //! - A lock that is held is no value that may be dropped: it is given back by `release` (`Places`).
 //! - `judge_file` answers `Inside` exactly where a file's folder leads to the store, to its tree or
-//!   to what the destination is to hold, or below one, or where the file would be one of the last
-//!   (`JudgesFile`); `Hidden` exactly where that can't be told. Nothing is asked of the file
+//!   to what the destination is to hold, or below one, or where the file would be one of the last;
+//!   where there is no destination, of the first two alone (`JudgesFile`); `Hidden` exactly where that can't be told. Nothing is asked of the file
 //!   itself.
 //!
 //! That nothing is lost, and that a run can be made again, is said of a destination into which
