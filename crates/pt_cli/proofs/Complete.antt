@@ -215,7 +215,7 @@ module _ (spelled : Spellings) where
                               (refl, refl, refl),
                               (
                                 (refl, refl, refl),
-                                ((refl, refl, refl), ((refl, refl, refl), ((refl, refl, refl), ((refl, refl, refl), ((refl, refl, refl), tt))))),
+                                ((refl, refl, refl), ((refl, refl, refl), ((refl, refl, refl), ((refl, refl, refl), ((refl, refl, refl), ((refl, refl, refl), tt)))))),
                               ),
                             ),
                           ),

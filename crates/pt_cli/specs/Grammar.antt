@@ -139,6 +139,10 @@ skips_rule = flag_rule (codes "skips-ok")
 abbrev pub extra_rule : Rule
 extra_rule = flag_rule (codes "extra")
 
+-- `--quick`
+abbrev pub quick_rule : Rule
+quick_rule = flag_rule (codes "quick")
+
 -- `--read`
 abbrev pub read_rule : Rule
 read_rule = flag_rule (codes "read")
@@ -190,7 +194,7 @@ IsMigrateApp app = (words : Spelled) × (app ≡ migrate_app words)
 abbrev pub audit_rules : Spelled → List Rule
 audit_rules words =
     digest_rule words.algorithms ∷ size_rule ∷ count_rule ∷ gather_rule ∷ share_rule
-    ∷ by_folders_rule ∷ only_rule ∷ list_rule ∷ ignore_rule ∷ skips_rule ∷ extra_rule ∷ verbose_rule ∷ quiet_rule
+    ∷ by_folders_rule ∷ only_rule ∷ list_rule ∷ ignore_rule ∷ skips_rule ∷ extra_rule ∷ quick_rule ∷ verbose_rule ∷ quiet_rule
     ∷ progress_rule words.times ∷ interval_rule ∷ expect_rule ∷ event_rule ∷ source_rule ∷ dest_rule ∷ []
 
 -- `audit [OPTIONS] SOURCE DEST`

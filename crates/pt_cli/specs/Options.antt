@@ -132,6 +132,7 @@ audit_options_in rows = do
     ignored = ignored;
     skips_ok = is_set_in (codes "skips-ok") rows;
     extra = is_set_in (codes "extra") rows;
+    quick = is_set_in (codes "quick") rows;
     feedback = feedback;
   })
 

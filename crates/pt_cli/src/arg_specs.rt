@@ -4,7 +4,7 @@
 use crate::grammar::{ArgSpec, Form};
 use crate::ids::{
     ADDRESS, BY_FOLDERS, CREATED, DEST, DIGEST, EVENT, EXPECT, EXTRA, GATHER, ID, IGNORE, INTERVAL,
-    INTO, LIST, MESSAGE, NAME, ONLY, PREFIX, PRESENT_OK, PROGRESS, QUIET, READ, REHEARSE, SHARE,
+    INTO, LIST, MESSAGE, NAME, ONLY, PREFIX, PRESENT_OK, PROGRESS, QUICK, QUIET, READ, REHEARSE, SHARE,
     SKIPS_OK, SOURCE, SYNC, TUPLE_SIZE, TUPLES, VERBOSE,
 };
 
@@ -251,6 +251,14 @@ pub(crate) const AUDIT_SPECS: &[ArgSpec] = &[
         help: "Tell too of what stands in ocfl and the store lacks",
         more: Some(
             "Tell too of what stands in ocfl and the store lacks\n[default: hold the store's objects against ocfl]",
+        ),
+    },
+    ArgSpec {
+        id: QUICK,
+        form: Form::Flag,
+        help: "Compare only names and lengths, without reading files",
+        more: Some(
+            "Compare only names and lengths: no file of an object is read, and one that fits is alike\n[default: compare every byte]",
         ),
     },
     VERBOSE_SPEC,

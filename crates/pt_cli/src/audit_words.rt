@@ -6,7 +6,7 @@ ghost use Rattle.pt_cli.specs.Options.{audit_in, audit_meta, audit_options_in};
 use crate::arguments::{is_set, text};
 use crate::faults::Unread;
 use crate::feedback_words::feedback;
-use crate::ids::{EXTRA, LIST, SKIPS_OK};
+use crate::ids::{EXTRA, LIST, QUICK, SKIPS_OK};
 use crate::ignore_words::ignored_names;
 use crate::job_words::job;
 use crate::meta_words::meta_of;
@@ -48,6 +48,7 @@ fn audit_options(alloc: Global, matches: &ArgMatches<'_>) -> Result<AuditOptions
         ignored,
         skips_ok: is_set(matches, SKIPS_OK),
         extra: is_set(matches, EXTRA),
+        quick: is_set(matches, QUICK),
         feedback,
     })
 }

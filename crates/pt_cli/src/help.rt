@@ -35,6 +35,8 @@ byte. Give the options that the run had. Nothing is made or changed.
 The log goes to standard output: a line of JSON for each object, and for each place that isn't
 carried. Each line says under "as" what was found:
   same     exactly the object stands at "to"; its moment, user and message may be any
+  alike    with --quick, in the place of same: at "to" stand files of the same names and lengths,
+           with an inventory of theirs; no file of an object was read
   absent   nothing stands there
   differs  the first difference is at "path" in it, by "why":
            missing, extra, kind (a file for a folder, or so) or bytes;
@@ -47,8 +49,8 @@ carried. Each line says under "as" what was found:
   end      the last line: how many there were of each
 
 Exit status:
-  0  all lines are same
-  1  the log has other lines (with --skips-ok, lines that are neither same nor skip),
+  0  all lines are same or alike
+  1  the log has other lines (with --skips-ok, other lines beside those of skip),
      or no object was met of an identifier of --list
   2  the words were refused, and nothing was done
   3  a fault ended the audit, and standard error says which"#;

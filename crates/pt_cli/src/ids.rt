@@ -47,6 +47,8 @@ pub(crate) const SKIPS_OK: &str = "skips-ok";
 
 pub(crate) const EXTRA: &str = "extra";
 
+pub(crate) const QUICK: &str = "quick";
+
 pub(crate) const VERBOSE: &str = "verbose";
 
 pub(crate) const QUIET: &str = "quiet";

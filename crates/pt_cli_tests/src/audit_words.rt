@@ -7,6 +7,7 @@ const WORDS: Words = &[
     "pairtree2ocfl",
     "audit",
     "--extra",
+    "--quick",
     "--gather",
     "--digest=sha256",
     "--tuples=2",
@@ -22,6 +23,7 @@ pub(crate) fn is_gathering(asked: &Audit) -> bool {
         && (asked.source.as_str(), asked.dest.as_str()) == ("S", "D")
         && is_path(&asked.options.feedback.event, Some("E"))
         && (asked.options.extra, asked.options.skips_ok) == (true, false)
+        && asked.options.quick
 }
 
 #[test]

@@ -2,7 +2,8 @@
 ghost use Rattle.std.specs.Prelude.{⊤, refl};
 ghost use Rattle.pt_folder.specs.Untold.{no_forest, no_kept, no_paths, unknown, untold_dir};
 ghost use Rattle.pt_folder.specs.Untold.{untold_fails_at, untold_fails_still, untold_fails_told};
-ghost use Rattle.pt_folder.specs.Untold.{untold_file, untold_kind, untold_look, untold_move};
+ghost use Rattle.pt_folder.specs.Untold.{untold_file, untold_kind, untold_length, untold_look};
+ghost use Rattle.pt_folder.specs.Untold.{untold_move};
 ghost use Rattle.pt_folder.specs.Untold.{untold_names, untold_open, untold_peek, untold_proper};
 ghost use Rattle.pt_folder.specs.Untold.{untold_tree, untold_write};
 
@@ -111,6 +112,8 @@ impl<'a> System for Counted<'a> {
 
     ghost looks = { λ _ _ _ _. ⊤ };
 
+    ghost measures = { λ _ _ _ _. ⊤ };
+
     ghost opens = { λ _ _ _ _. ⊤ };
 
     ghost makes_file = { λ _ _ _ _. ⊤ };
@@ -124,6 +127,8 @@ impl<'a> System for Counted<'a> {
     ghost writes = { λ _ _ _ _ _ _. ⊤ };
 
     ghost look_law = { λ old new folder p reply named can by. untold_look p reply };
+
+    ghost length_law = { λ old new folder p reply named can by. untold_length p reply };
 
     ghost open_law = { λ old new folder p reply named can by. untold_open p reply };
 
@@ -165,6 +170,14 @@ impl<'a> System for Counted<'a> {
             return Err(io::Error::from(ErrorKind::NotFound));
         }
         Ok(Kind::File)
+    }
+
+    fn lstat_length(&mut self, _: &str) -> io::Result<u64> {
+        add_one(&self.counts.looks);
+        if self.counts.no_look.get() {
+            return Err(io::Error::from(ErrorKind::NotFound));
+        }
+        Ok(0)
     }
 
     fn open_to_read(&mut self, _: &str) -> io::Result<HostFile<CountedFile<'a>>> {

@@ -407,16 +407,44 @@ const FILES: &[FileRow] = &[
 ];
 
 impl FileRow {
-    // Whether the file is judged so.
-    fn holds(&self, alloc: Global) -> bool {
+    // Whether the file is judged so beside this destination, if there is one.
+    fn holds(&self, alloc: Global, dest: Option<&str>) -> bool {
         let paths = make_places(self.leads, self.numbers, Lock::Held);
-        judge_file(&mut &paths, alloc, self.file, "s", "d") == self.comes
+        judge_file(&mut &paths, alloc, self.file, "s", dest) == self.comes
     }
 }
 
 #[test]
 fn files_are_judged_by_their_folders(rt: HostRuntime) {
     for row in FILES {
-        assert!(rt; row.holds(rt.alloc()), "{} {:?}", row.file, row.leads);
+        assert!(rt;
+            row.holds(rt.alloc(), Some("d")),
+            "{} {:?}",
+            row.file,
+            row.leads
+        );
+    }
+}
+
+// Files of a check, which has no destination: what `ocfl` of the store leads to isn't asked for.
+const FILES_OF_CHECK: &[FileRow] = &[
+    FileRow {
+        file: "x/ev",
+        leads: &[("s", "/a"), ("s/ocfl", "/c"), ("x", "/c")],
+        numbers: &[("s", 1)],
+        comes: Ok(()),
+    },
+    FileRow {
+        file: "x/ev",
+        leads: &[("s", "/a"), ("s/pairtree_root", "/c"), ("x", "/c")],
+        numbers: &[("s", 1)],
+        comes: Err(FileFault::Inside),
+    },
+];
+
+#[test]
+fn file_of_a_check_is_judged_by_its_store(rt: HostRuntime) {
+    for row in FILES_OF_CHECK {
+        assert!(rt; row.holds(rt.alloc(), None), "{} {:?}", row.file, row.leads);
     }
 }

@@ -32,6 +32,7 @@ fn plant_store(alloc: Global, store: &mut MemSource) -> Result<(), Fail> {
 #[derive(Clone, Copy)]
 enum Step {
     Look(&'static str, Result<Kind, ErrorKind>),
+    Length(&'static str, Result<u64, ErrorKind>),
     // The names in a directory are read by these pieces, into so many bytes.
     Names(&'static str, usize, &'static [&'static str]),
     NoNames(&'static str, ErrorKind),
@@ -82,7 +83,8 @@ fn goes(system: &mut MemorySystem<'_>, faults: &Faults, step: Step) -> io::Resul
 // Whether a look, a change, or a call that is to fail is answered so.
 fn is_answered(system: &mut MemorySystem<'_>, step: Step) -> bool {
     match step {
-        Step::Look(at, answer) => look(system, at) == answer,
+        Step::Look(at, answer) => answer_of(system.lstat(at)) == answer,
+        Step::Length(at, answer) => answer_of(system.lstat_length(at)) == answer,
         Step::NoNames(at, error) => error_of(system.read_dir(at)) == Some(error),
         Step::NoFile(at, error) => error_of(system.open_to_read(at)) == Some(error),
         Step::MakeDir(at, error) => error_of(system.make_dir(at)) == error,
@@ -99,9 +101,10 @@ fn error_of<T: Drop>(answer: io::Result<T>) -> Option<ErrorKind> {
     }
 }
 
-fn look(system: &mut MemorySystem<'_>, at: &str) -> Result<Kind, ErrorKind> {
-    match system.lstat(at) {
-        Ok(kind) => Ok(kind),
+// What a call answers, or what it failed for.
+fn answer_of<T>(answer: io::Result<T>) -> Result<T, ErrorKind> {
+    match answer {
+        Ok(answer) => Ok(answer),
         Err(error) => Err(error.kind()),
     }
 }
@@ -184,6 +187,8 @@ const READ: &[Step] = &[
     Step::Look("store/pairs/a", Ok(Kind::File)),
     Step::Look("store/link", Ok(Kind::Other)),
     Step::Look("store/b", Err(ErrorKind::NotFound)),
+    Step::Length("store/pairs/a", Ok(5)),
+    Step::Length("store/b", Err(ErrorKind::NotFound)),
     Step::Names("store/", 64, &["link\0pairs\0", ""]),
 ];
 
@@ -214,6 +219,7 @@ const WRITTEN: &[Step] = &[
     Step::Move("root/staging", "root/place", None),
     Step::Look("root/staging", Err(ErrorKind::NotFound)),
     Step::Look("root/place", Ok(Kind::Dir)),
+    Step::Length("root/place/a", Ok(5)),
     Step::TakeAtMost(64),
     Step::Read("root/place/a", &[(None, "bytes")]),
     Step::MakeDir("store/new", Some(ErrorKind::NotFound)),
@@ -235,13 +241,14 @@ fn the_system_in_memory_is_read_and_written(rt: HostRuntime) -> Result<(), Fail>
     Ok(())
 }
 
-// Seven calls, one after another.
-fn make_seven_calls(system: &mut MemorySystem<'_>) -> io::Result<()> {
+// Eight calls, one after another.
+fn make_eight_calls(system: &mut MemorySystem<'_>) -> io::Result<()> {
     system.lstat("root/")?;
     system.make_dir("root/staging")?;
     write_staged(system)?;
     system.rename("root/staging", "root/place")?;
     system.lstat("root/place/a")?;
+    system.lstat_length("root/place/a")?;
     Ok(())
 }
 
@@ -251,14 +258,14 @@ fn write_staged(system: &mut MemorySystem<'_>) -> io::Result<()> {
     file.sync()
 }
 
-// What the seven calls fail for where each call after so many fails, how many were made, and
+// What the eight calls fail for where each call after so many fails, how many were made, and
 // whether half of what is written is left.
 fn fail_calls(alloc: Global, passing: u64) -> Result<(Option<ErrorKind>, u64, bool), Fail> {
     let at = path(alloc, "staging/a")?;
     let faults = Faults::new();
     let mut system = make_system(alloc, &faults)?;
     faults.fail_after(Some(passing));
-    let error = error_of(make_seven_calls(&mut system));
+    let error = error_of(make_eight_calls(&mut system));
     Ok((error, faults.calls(), is_half(system, &at)))
 }
 
@@ -269,7 +276,7 @@ fn is_half(system: MemorySystem<'_>, at: &NamePath) -> bool {
 
 #[test]
 fn each_call_fails_in_turn(rt: HostRuntime) -> Result<(), Fail> {
-    for passing in 0..7 {
+    for passing in 0..8 {
         // the fourth call, a write, leaves half
         let failed = fail_calls(rt.alloc(), passing)?;
         assert!(rt;
@@ -277,8 +284,8 @@ fn each_call_fails_in_turn(rt: HostRuntime) -> Result<(), Fail> {
             "after {passing}: {failed:?}"
         );
     }
-    let passed = fail_calls(rt.alloc(), 7)?;
-    assert!(rt; passed == (None, 7, false), "{passed:?}");
+    let passed = fail_calls(rt.alloc(), 8)?;
+    assert!(rt; passed == (None, 8, false), "{passed:?}");
     Ok(())
 }
 

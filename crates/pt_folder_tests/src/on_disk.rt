@@ -4,6 +4,8 @@ use crate::failing_system::SystemState;
 use crate::steps::{
     DONE, DestStep, FAILS, Outcome, Row, SourceStep, is_part, piece, try_dest, try_source,
 };
+use pt_folder::System;
+use pt_machine::HostMachine;
 use pt_tree::{Kind, TreeFault};
 use std::io::ErrorKind;
 use std::os::unix::fs::symlink;
@@ -287,6 +289,40 @@ fn a_folder_of_the_disk_is_read_and_written(rt: HostRuntime) -> Result<(), Fail>
             "{name}: {wrong:?}"
         );
     }
+    Ok(())
+}
+
+const LENGTHS: Entries = &[
+    ("empty", Entry::File(0)),
+    ("seven", Entry::File(7)),
+    ("link", Entry::Link("seven")),
+    ("to_nothing", Entry::Link("no")),
+];
+
+// The length that the machine tells of an entry of a folder.
+fn length_at(rt: &HostRuntime, folder: &str, name: &str) -> Result<u64, Fail> {
+    let path = format!(in rt.alloc(); "{folder}/{name}")?;
+    Ok(HostMachine::new(rt).lstat_length(path.as_str())?)
+}
+
+fn tell_lengths(rt: &HostRuntime, folder: &str) -> Result<[u64; 4], Fail> {
+    make_folder(rt, folder, LENGTHS)?;
+    let lengths = [
+        length_at(rt, folder, "empty")?,
+        length_at(rt, folder, "seven")?,
+        length_at(rt, folder, "link")?,
+        length_at(rt, folder, "to_nothing")?,
+    ];
+    fs::remove_dir_all(rt, folder)?;
+    Ok(lengths)
+}
+
+// A link isn't followed: its length is that of the text in it.
+#[test]
+fn the_lengths_of_files_are_told(rt: HostRuntime) -> Result<(), Fail> {
+    let folder = env::temp_dir(&rt)?.join(rt.alloc(), "pt_folder_lengths")?;
+    let lengths = tell_lengths(&rt, folder.as_str())?;
+    assert!(rt; lengths == [0, 7, 5, 2], "{lengths:?}");
     Ok(())
 }
 

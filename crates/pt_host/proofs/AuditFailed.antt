@@ -3,6 +3,7 @@ use Rattle.std.proofs.Common.{◌≡◌, ℕ, List, Bool, [], arith, false, inl,
 use Rattle.std.specs.Prelude.{◌+◌, ◌≤◌, ◌⊎◌, cond, IfErr, None, Option, Some, Result, Ok, Err}
 use Rattle.pt_audit.specs.Auditing.{AuditStart}
 use Rattle.pt_audit.specs.Failing.{BlamesRightly}
+use Rattle.pt_audit.specs.declared.compare_by.CompareBy.{CompareBy}
 use Rattle.pt_extra.proofs.Unlisted.{wider}
 use Rattle.pt_extra.specs.Audits.{AuditBlames, AuditLogs, IsExtraLog, IsExtraLogSoFar, OfItems, WithRest, against_store}
 use Rattle.pt_extra.specs.Findings.{Against}
@@ -45,7 +46,8 @@ module _ {F G : Type 0} (weaker : F → G) where
       by true it = wider c [] (c.job.tuples.count + 1) (inside_at r storage_root) told weaker it
       by false it = it
 
-  wider_log : (job : Job) (s r : Forest) (text : List ℕ) (told : AuditCounts) → IsExtraLog F job s r text told → IsExtraLog G job s r text told
+  wider_log : {by : CompareBy} (job : Job) (s r : Forest) (text : List ℕ) (told : AuditCounts) → IsExtraLog F by job s r text told
+      → IsExtraLog G by job s r text told
   wider_log job s r text told it = record {
     lines = it.lines;
     all = it.all;
@@ -55,7 +57,7 @@ module _ {F G : Type 0} (weaker : F → G) where
     whole = it.whole;
   }
 
-  so_far : (job : Job) (s r : Forest) (text : List ℕ) → IsExtraLogSoFar F job s r text → IsExtraLogSoFar G job s r text
+  so_far : {by : CompareBy} (job : Job) (s r : Forest) (text : List ℕ) → IsExtraLogSoFar F by job s r text → IsExtraLogSoFar G by job s r text
   so_far job s r text (OfItems it) = OfItems it
   so_far job s r text (WithRest {told = told} it) = WithRest (wider_log job s r text told it)
 

@@ -4,6 +4,7 @@ use Rattle.std.specs.Prelude.{Bool, IfErr, None, OnOk, Option, Some, Result}
 use Rattle.pt_audit.specs.Auditing.{AreUnmetIn, start_over}
 use Rattle.pt_audit.specs.Bounds.{IsMade}
 use Rattle.pt_audit.specs.Failing.{AuditSays}
+use Rattle.pt_audit.specs.declared.compare_by.CompareBy.{CompareBy}
 use Rattle.pt_audit.specs.declared.counts.Counts.{Counts}
 use Rattle.pt_tree.specs.Source.{tree_in}
 use Rattle.pt_extra.specs.Audits.{AuditLogs}
@@ -38,14 +39,14 @@ module _ {S : Type 0} (forest : S → List ℕ → Option Forest) where
   root_is {own = own} {path = path} reading same at = tree_of_root (forest own path) reading ∙ (λ i. root_tree (forest (same i) (at i)))
 
 -- an audit ends as it did, whatever its trees and its log are called
-pub ends_as : (extra : Bool) (failed : Type 0) (ran : Result AuditCounts Fault) (job : Job) {source store root folder : Option Forest}
+pub ends_as : (extra : Bool) (failed : Type 0) (ran : Result AuditCounts Fault) (job : Job) (by : CompareBy) {source store root folder : Option Forest}
     {first begun now last : Option (List ℕ)} → source ≡ store → root ≡ folder → first ≡ begun → now ≡ last
-    → AuditLogs extra failed job (start_over source root first) now ran → AuditLogs extra failed job (start_over store folder begun) last ran
-ends_as extra failed ran job {source} {store} {root} {folder} {first} {begun} {now} {last} source_is root_is first_is now_is ends =
-    subst (λ (l : Option (List ℕ)). AuditLogs extra failed job (start_over store folder begun) l ran) now_is
-    (subst (λ (l : Option (List ℕ)). AuditLogs extra failed job (start_over store folder l) now ran) first_is
-    (subst (λ (t : Option Forest). AuditLogs extra failed job (start_over store t first) now ran) root_is
-    (subst (λ (t : Option Forest). AuditLogs extra failed job (start_over t root first) now ran) source_is ends)))
+    → AuditLogs extra failed job (start_over by source root first) now ran → AuditLogs extra failed job (start_over by store folder begun) last ran
+ends_as extra failed ran job by {source} {store} {root} {folder} {first} {begun} {now} {last} source_is root_is first_is now_is ends =
+    subst (λ (l : Option (List ℕ)). AuditLogs extra failed job (start_over by store folder begun) l ran) now_is
+    (subst (λ (l : Option (List ℕ)). AuditLogs extra failed job (start_over by store folder l) now ran) first_is
+    (subst (λ (t : Option Forest). AuditLogs extra failed job (start_over by store t first) now ran) root_is
+    (subst (λ (t : Option Forest). AuditLogs extra failed job (start_over by t root first) now ran) source_is ends)))
 
 -- so does what it says
 pub says_as : (ran : Result AuditCounts Fault) (job : own.Job) {source store root folder : Option Forest} → source ≡ store → root ≡ folder

@@ -1,6 +1,8 @@
+mod AllSynced
+pub mod AskedAudits
 mod AuditBlamed
-mod Audited
 mod AuditFailed
+mod Audited
 mod Begun
 mod CameSo
 mod Checked
@@ -10,16 +12,15 @@ mod LeftUnmet
 mod ListFiles
 mod ListedEnds
 mod LogBlamed
-mod Logged
 mod LogPut
+mod Logged
 mod Recorded
+mod RehearsalTold
 mod Rehearsed
 mod Released
-mod RehearsalTold
 mod Roomy
 mod Standing
 mod Stepping
 mod ToldUnmet
 mod Unhalted
 mod UnhaltedStore
-mod AllSynced

@@ -6,7 +6,7 @@ use Rattle.std.specs.Result.{result_ok}
 use Rattle.std.specs.declared.alloc.AllocError.{AllocError}
 use Rattle.pt_messages.specs.EventMembers.{event_members}
 use Rattle.pt_messages.specs.Members.{empty_members, line_of}
-use Rattle.pt_host.specs.Events.{BeginsEvent, BeginsWith, EndsEvent, EndsFile, EndsRecord, EventHead, EventText, IsRecorded, MakesEvent}
+use Rattle.pt_host.specs.Events.{BeginsEvent, BeginsWith, EndsEvent, EndsFile, EndsRecord, EventHead, EventText, IsRecorded, MakesEvent, judged_beside}
 use Rattle.pt_host.specs.Events.{Replaces, event_status, event_text_at, paths_of}
 use Rattle.pt_host.specs.Machine.{MachineWords}
 use Rattle.pt_host.specs.Told.{TellsEvent}
@@ -43,7 +43,7 @@ module _ {H : Type 0} (words : MachineWords H) (head : EventHead) (makes : H →
 pub begun_event : {H : Type 0} (words : MachineWords H) (head : EventHead) (path : Option (List ℕ)) (bytes : List ℕ) (file : EventFile)
     (made : EventText) (old new : H) → path ≡ Some bytes → file.path ≡ bytes → file.part ≡ bytes ++ codes ".part"
     → made.file ≡ file.path → made.part ≡ file.part → made.text ≡ line_of (event_members file.event) → BeginsWith head (event_members file.event)
-    → MakesEvent words head.at made old new (Ok tt) → BeginsEvent words head path old new (Ok (Some file))
+    → MakesEvent words (judged_beside head) made old new (Ok tt) → BeginsEvent words head path old new (Ok (Some file))
 begun_event words head None bytes file made old new given is-path is-part file-is part-is text-is begins makes = absurd (cc)
 begun_event words head (Some path) bytes file made old new given is-path is-part file-is part-is text-is begins makes =
     let same : bytes ≡ path = cc in
@@ -53,7 +53,7 @@ begun_event words head (Some path) bytes file made old new given is-path is-part
       named,
       inr (
         begins,
-        subst (λ (e : EventText). MakesEvent words head.at e old new (Ok tt))
+        subst (λ (e : EventText). MakesEvent words (judged_beside head) e old new (Ok tt))
             (is ∙ ap (λ (p : List ℕ × List ℕ). event_text_at p (event_members file.event)) named) makes,
       ),
     )
@@ -68,7 +68,7 @@ unbegun_event words head (Some path) bytes old given = (empty_members, inl (refl
 pub unmade_event : {H : Type 0} (words : MachineWords H) (head : EventHead) (path : Option (List ℕ)) (bytes : List ℕ) (file : EventFile)
     (made : EventText) (old new : H) (why : EventFault) → path ≡ Some bytes → file.path ≡ bytes → file.part ≡ bytes ++ codes ".part"
     → made.file ≡ file.path → made.part ≡ file.part → made.text ≡ line_of (event_members file.event) → BeginsWith head (event_members file.event)
-    → MakesEvent words head.at made old new (Err why) → BeginsEvent words head path old new (Err why)
+    → MakesEvent words (judged_beside head) made old new (Err why) → BeginsEvent words head path old new (Err why)
 unmade_event words head None bytes file made old new why given is-path is-part file-is part-is text-is begins makes = absurd (cc)
 unmade_event words head (Some path) bytes file made old new why given is-path is-part file-is part-is text-is begins makes =
     let same : bytes ≡ path = cc in
@@ -78,7 +78,7 @@ unmade_event words head (Some path) bytes file made old new why given is-path is
       event_members file.event,
       inr (
         begins,
-        subst (λ (e : EventText). MakesEvent words head.at e old new (Err why))
+        subst (λ (e : EventText). MakesEvent words (judged_beside head) e old new (Err why))
             (is ∙ ap (λ (p : List ℕ × List ℕ). event_text_at p (event_members file.event)) named) makes,
       ),
     )

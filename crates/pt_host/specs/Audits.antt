@@ -5,6 +5,8 @@ use Rattle.pt_audit.specs.Auditing.{AreUnmetIn, start_over}
 use Rattle.pt_audit.specs.Bounds.{IsMade}
 use Rattle.pt_audit.specs.Failing.{AuditSays}
 use Rattle.pt_audit.specs.Layout.{IsOfLayout}
+use Rattle.pt_audit.specs.declared.compare_by.CompareBy.{CompareBy}
+use Rattle.pt_audit.specs.declared.compare_by.CompareBy.TheVariants.{Bytes, Lengths}
 use Rattle.pt_tree.specs.Source.{tree_in}
 use Rattle.pt_extra.specs.Audits.{AuditLogs, in_both}
 use Rattle.pt_extra.specs.declared.auditing.AuditCounts.{AuditCounts}
@@ -21,6 +23,9 @@ use Rattle.pt_host.specs.Events.{event_head}
 use Rattle.pt_host.specs.HostCall.{Lend, TakeBack}
 use Rattle.pt_host.specs.Machine.{HostIoOf, HostIoWords, MachineWords}
 use Rattle.pt_host.specs.Made.{GuardsRecord, OfList, failing_at_rest}
+use Rattle.pt_host.specs.QuickAudits.{io_seen, io_within, quick_options}
+use Rattle.pt_host.specs.SeenByLengths.{words_seen}
+use Rattle.pt_quick.specs.declared.by_lengths.ByLengths.{ByLengths}
 use Rattle.pt_host.specs.RecordedOptions.{audit_members}
 use Rattle.pt_host.specs.StoreFailures.{FailsWhereStands}
 use Rattle.pt_host.specs.Told.{CameTo}
@@ -43,10 +48,15 @@ abbrev pub audit_status : Bool → Result AuditCounts Fault → ℕ
 audit_status skips_ok (Ok told) = if others skips_ok told == 0 then 0 else 1
 audit_status skips_ok (Err fault) = 3
 
--- the words of an audit's log, with extras or without them
-abbrev pub words_with : Bool → Words
-words_with true = log.BothWays
-words_with false = log.Audit
+-- what is compared of files, by whether an audit is to be quick
+abbrev pub compare_by : Bool → CompareBy
+compare_by true = Lengths
+compare_by false = Bytes
+
+-- the words of an audit's log that compares this, with extras or without them
+abbrev pub words_with : Bool → CompareBy → Words
+words_with true by = log.BothWays by
+words_with false by = log.Audit by
 
 -- the tree that an audit sees of a store: the one that its system keeps, without the entries that are left out
 abbrev pub store_tree : List (List ℕ) → Option Forest → Option Forest
@@ -112,7 +122,7 @@ pub record AuditsOver {S D W : Type 0} (words : HostIoWords S D W (Option Forest
     (old new : HostIo S D W) (end : Conclusion) : Type 0 where
   pub ran : Result AuditCounts Fault
   pub ends : AuditLogs call.options.extra (failed.root call.folder old.folder new.folder) (job_of call.options.job)
-      (start_over (store_seen words call old) (root_seen words call old) (words.output old.output))
+      (start_over (compare_by call.options.quick) (store_seen words call old) (root_seen words call old) (words.output old.output))
       (words.output new.output) ran
   pub layout : OnOk ran (ForSome (root_seen words call old) (IsOfLayout (job_of call.options.job)))
   pub says : IfErr ran (AuditSays call.options.job (store_seen words call old)
@@ -123,15 +133,31 @@ pub record AuditsOver {S D W : Type 0} (words : HostIoWords S D W (Option Forest
   pub root_stays : root_seen words call new ≡ root_seen words call old
   pub grows : Grows (words.output old.output) (words.output new.output)
   pub status_is : end.status ≡ audit_status call.options.skips_ok ran
-  pub came : CameTo (words_with call.options.extra) (audit_totals ran) end.outcome
+  pub came : CameTo (words_with call.options.extra (compare_by call.options.quick)) (audit_totals ran) end.outcome
   pub unmet : OnOk ran (AreUnmetIn call.options.job (store_seen words call old) end.unmet)
 
+-- the audit that is made over what is shown by lengths
+abbrev pub quick_call : AuditCall → AuditCall
+quick_call call = record call { options = quick_options call.options }
+
+-- an audit by lengths was made over what is seen so of what was lent, which is as that was left
+abbrev pub AuditsSeen : {S D W : Type 0} → HostIoWords (ByLengths S) (ByLengths D) W (Option Forest) → FailedCalls (ByLengths D) W
+    → AuditCall → (old new : HostIo S D W) → Conclusion → Type 0
+AuditsSeen {S} {D} {W} words failed call old new end = (seen : HostIo (ByLengths S) (ByLengths D) W)
+    × AuditsOver words failed (quick_call call) (io_seen call.options (call.store, call.folder) old) seen end × (new ≡ io_within seen)
+
 module _ {H : Type 0} (words : MachineWords H) (asks : Option (List ℕ) → Type 0) (call : AuditCall) where
+  -- the audit that is asked for, by bytes or by lengths
+  abbrev pub AuditsBy : Bool → (old new : HostIoOf words) → Conclusion → Type 0
+  AuditsBy false old new end = AuditsOver words.read (failed_calls words.fails (LogFails words.writes words.puts None)) call old new end
+  AuditsBy true old new end =
+      AuditsSeen (words_seen words.read) (failed_calls words.fails_seen (LogFails words.writes words.puts None)) call old new end
+
   -- an audit once it may begin: it is asked what is expected of it, and made over what the machine lends, which is given back
   abbrev pub Compares : H → H → Conclusion → Type 0
   Compares old new end = asks call.options.feedback.expected
       × (host_io : HostIoOf words) × (lent : H) × words.host old (Lend host_io) lent × (after : HostIoOf words)
-      × AuditsOver words.read (failed_calls words.fails (LogFails words.writes words.puts None)) call host_io after end
+      × AuditsBy call.options.quick host_io after end
       × words.host lent (TakeBack after) new
 
   -- what `audit_guarded` does on a machine, by the words of that: the guard, with a lock that others may share, the audit that

@@ -1,5 +1,5 @@
 -- The file in which a run, an audit or a check is recorded: which calls are made on it, and which status it leaves.
-use Rattle.std.specs.Prelude.{◌≡◌, ◌⊎◌, ◌++◌, ℕ, Bool, true, false, List, Option, Some, None, Result, Ok, Err, codes}
+use Rattle.std.specs.Prelude.{◌≡◌, ◌⊎◌, ◌++◌, ℕ, Bool, true, false, List, Option, Some, None, Result, Ok, Err, codes, if◌then◌else◌}
 use Rattle.std.specs.IoError.{error_kind}
 use Rattle.std.specs.declared.io.Error.{Error}
 use Rattle.std.specs.declared.io.ErrorKind.{ErrorKind}
@@ -77,6 +77,10 @@ pub record EventHead : Type 0 where
   pub has_dest : Bool
   pub options : List ℕ → JsonMembers
 
+-- the folders beside which its file is judged: its store, and its destination, if it has one
+abbrev pub judged_beside : EventHead → List ℕ × Option (List ℕ)
+judged_beside head = (head.at.0, if head.has_dest then Some head.at.1 else None)
+
 -- this under a word, over these folders, with these options
 abbrev pub event_head : List ℕ → List ℕ × List ℕ → Bool → (List ℕ → JsonMembers) → EventHead
 event_head word at has_dest options = record { word = word; at = at; has_dest = has_dest; options = options }
@@ -131,15 +135,15 @@ module _ {H : Type 0} (words : MachineWords H) where
   MakesWhere event (Err why) mid new result = Stops (fault.Place why) mid new result
   MakesWhere event (Ok done) mid new result = MakesUnlessLeft event mid new result
 
-  -- where it may lie, beside a store and a destination, is asked first
-  abbrev pub MakesEvent : List ℕ × List ℕ → EventText → H → H → Result (Unit {0}) EventFault → Type 0
+  -- where it may lie, beside a store and a destination, if there is one, is asked first
+  abbrev pub MakesEvent : List ℕ × Option (List ℕ) → EventText → H → H → Result (Unit {0}) EventFault → Type 0
   MakesEvent at event old new result = (judged : Result (Unit {0}) FileFault) × (mid : H)
       × JudgesFile words.places at event.file old mid judged × MakesWhere event judged mid new result
 
   -- an event begins with these members: its file is made, with them; or memory was wanting for a text, before anything was asked
   abbrev pub BeginsFile : EventHead → List ℕ → JsonMembers → H → H → Result (Unit {0}) EventFault → Type 0
   BeginsFile head path begun old new result = Stops fault.Memory old new result
-      ⊎ (BeginsWith head begun × MakesEvent head.at (event_text_at (paths_of path) begun) old new result)
+      ⊎ (BeginsWith head begun × MakesEvent (judged_beside head) (event_text_at (paths_of path) begun) old new result)
 
   -- the same where a file is named for it, and what is kept of that; else nothing is asked
   abbrev pub BeginsEvent : EventHead → Option (List ℕ) → H → H

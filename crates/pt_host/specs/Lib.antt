@@ -11,6 +11,7 @@ pub mod Machine
 pub mod Made
 pub mod Operation
 pub mod Output
+pub mod QuickAudits
 pub mod QuietCheckLaw
 pub mod QuietStoreLaw
 pub mod ReadSteps
@@ -19,6 +20,7 @@ pub mod RehearsalFaultLaw
 pub mod RehearsalLaw
 pub mod Room
 pub mod Running
+pub mod SeenByLengths
 pub mod Served
 pub mod StoreFailures
 pub mod Told

@@ -8,6 +8,7 @@ use Rattle.pt_tree.specs.Path.{Path}
 use Rattle.pt_host.specs.HostCall.{HostCall}
 use Rattle.pt_host.specs.declared.host.HostIo.{HostIo}
 use Rattle.pt_host.specs.declared.options.RunOptions.{RunOptions}
+use Rattle.pt_quick.specs.declared.by_lengths.ByLengths.{ByLengths}
 
 -- of what a machine lends: what its two systems keep at a path, where they tell it, and what the output holds; and at which paths below it
 -- the store's system fails, where it tells that
@@ -26,7 +27,7 @@ host_io_words store fails folder output =
 -- a machine by its words: what its calls on places and its own may come to; the syncing of the output's file alone; the
 -- writing of the output, and that syncing behind it. And those of what it lends, as a run writes and as an audit reads it,
 -- with what serving a run leaves of the destination's system, and how many calls failed then; and where a call failed that
--- read a folder there
+-- read a folder there. And where one did that read it seen by lengths
 pub record MachineWords (H : Type 0) : Type 1 where
   pub Lock : Type 0
   pub Store : Type 0
@@ -43,6 +44,7 @@ pub record MachineWords (H : Type 0) : Type 1 where
   pub read : HostIoWords Store Dest Output (Option Forest)
   pub serves : RunOptions → List ℕ → Dest → Dest → ℕ → Type 0
   pub fails : List ℕ → Dest → Dest → Type 0
+  pub fails_seen : List ℕ → ByLengths Dest → ByLengths Dest → Type 0
 
 -- what a machine lends
 abbrev pub HostIoOf : {H : Type 0} → MachineWords H → Type 0

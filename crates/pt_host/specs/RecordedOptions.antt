@@ -80,9 +80,9 @@ run_members options file = with_feedback options.feedback (with_allowed options.
 
 -- and of an audit
 abbrev pub audit_members : AuditOptions → List ℕ → JsonMembers
-audit_members options file = with_feedback options.feedback (put_flag (codes "extra") options.extra
-    (put_flag (codes "skips-ok") options.skips_ok (put_texts (codes "ignore") options.ignored
-    (with_job options.job (list_file options.job.share file) empty_members))))
+audit_members options file = with_feedback options.feedback (put_flag (codes "quick") options.quick
+    (put_flag (codes "extra") options.extra (put_flag (codes "skips-ok") options.skips_ok (put_texts (codes "ignore") options.ignored
+    (with_job options.job (list_file options.job.share file) empty_members)))))
 
 -- and of a check: a destination only where one is named
 abbrev pub check_members : CheckOptions → List ℕ → JsonMembers

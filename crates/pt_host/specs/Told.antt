@@ -1,12 +1,13 @@
 -- What standard error is told of how something ended: a fault, a refusal, why there is no event, and each identifier of a list that is unmet.
-use Rattle.std.specs.Prelude.{◌≡◌, ◌⊎◌, ◌++◌, ℕ, zero, suc, IfOk, List, [], ◌∷◌, Option, None, Some, Result, codes}
+use Rattle.std.specs.Prelude.{◌≡◌, ◌⊎◌, ◌++◌, ℕ, zero, suc, IfOk, List, [], ◌∷◌, Option, None, Some, Result, Ok, Err, codes}
 use Rattle.std.specs.Result.{result_err}
 use Rattle.pt_guard.specs.declared.file.FileFault.TheVariants as place
 use Rattle.pt_guard.specs.declared.guard.GuardFault.{GuardFault}
 use Rattle.pt_guard.specs.declared.guard.GuardFault.TheVariants as guard
-use Rattle.pt_messages.specs.Counts.{HasTotals}
+use Rattle.pt_messages.specs.Counts.{HasTotals, with_totals}
 use Rattle.pt_messages.specs.Escaped.{escaped}
 use Rattle.pt_messages.specs.FaultLines.{fault_line}
+use Rattle.pt_messages.specs.declared.counted.LineCounts.{LineCounts}
 use Rattle.pt_messages.specs.declared.counted.Totals.{Totals}
 use Rattle.pt_messages.specs.declared.event.Outcome.{Outcome}
 use Rattle.pt_messages.specs.declared.watch.Words.{Words}
@@ -23,6 +24,11 @@ use Rattle.pt_host.specs.declared.operation.Conclusion.{Conclusion}
 abbrev pub CameTo : Words → Result Totals Fault → Outcome → Type 0
 CameTo kind ended outcome = (outcome.words ≡ kind) × (outcome.fault ≡ result_err ended)
     × IfOk ended (λ totals. HasTotals totals outcome.counts)
+
+-- the counts of a log's lines as something ended with them: with what it says itself of the lines, unless a fault ended it
+abbrev pub counts_at : Result Totals Fault → LineCounts → LineCounts
+counts_at (Ok totals) counted = with_totals totals counted
+counts_at (Err fault) counted = counted
 
 -- the line of a fault, by its own text
 abbrev pub own_line : Fault → List ℕ

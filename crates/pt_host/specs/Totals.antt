@@ -9,15 +9,23 @@ use Rattle.pt_state.specs.declared.job.Report.{Report}
 
 -- a run, by its report
 abbrev pub run_totals : Result Report Fault → Result Totals Fault
-run_totals (Ok report) = Ok (Run report.done report.present report.skipped)
+run_totals (Ok report) = Ok (Run (record { done = report.done; present = report.present; skips = report.skipped }))
 run_totals (Err fault) = Err fault
 
 -- an audit, by its counts
 abbrev pub audit_totals : Result AuditCounts Fault → Result Totals Fault
-audit_totals (Ok told) = Ok (Audit told.counts.same told.counts.absent told.counts.differs told.counts.skipped told.numbers.extra told.numbers.stray)
+audit_totals (Ok told) = Ok (Audit (record {
+  same = told.counts.same;
+  absent = told.counts.absent;
+  differs = told.counts.differs;
+  skips = told.counts.skipped;
+  extra = told.numbers.extra;
+  stray = told.numbers.stray;
+}))
 audit_totals (Err fault) = Err fault
 
 -- a check, by its numbers
 abbrev pub check_totals : Result Numbers Fault → Result Totals Fault
-check_totals (Ok numbers) = Ok (Check numbers.told numbers.objects numbers.files numbers.bytes)
+check_totals (Ok numbers) =
+    Ok (Check (record { told = numbers.told; objects = numbers.objects; files = numbers.files; bytes = numbers.bytes }))
 check_totals (Err fault) = Err fault

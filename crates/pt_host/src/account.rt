@@ -1,18 +1,18 @@
 //! What is told of a run, an audit or a check beside its log, from its beginning to its end: how
 //! far it is, how much was left out, its summary, why a fault ended it, and what its event records.
 ghost use Rattle.std.specs.Prelude.{◌≡◌};
-ghost use Rattle.pt_host.specs.Told.{CameTo};
+ghost use Rattle.pt_host.specs.Told.{CameTo, counts_at};
+ghost use Rattle.pt_messages.specs.LineCounts.{no_lines};
 
 use crate::Feedback;
 use crate::folders::Folders;
-use crate::watched_store::WatchedStore;
 use pt_folder::{HostSource, System};
 use pt_messages::{
     CountedLog, Explanation, LastCalls, Outcome, Reads, Tally, Terminals, Totals, Watch, Watching,
     reason,
 };
 use pt_move::Fault;
-use pt_tree::{Ignored, Ignoring, Log};
+use pt_tree::{Ignored, Ignoring, Log, Watched};
 use std::alloc::AllocGlobal;
 use std::rt::Clock;
 
@@ -28,7 +28,7 @@ pub(crate) struct Account<'a> {
 /// The store of a run, an audit or a check without the entries that are left out, and its log,
 /// while both are watched.
 pub(crate) type WatchedIo<'w, 'a, R, S, L> = (
-    WatchedStore<Ignoring<HostSource<'a, S>>, Watch<'w, R>>,
+    Watched<Ignoring<HostSource<'a, S>>, Watch<'w, R>>,
     CountedLog<L>,
 );
 
@@ -63,10 +63,11 @@ impl<'a> Account<'a> {
         R: Reads + Clock + Eprint + AllocGlobal + Terminals,
         ensures source { result.0.source ≡ source.entry }
         ensures log { result.1.log ≡ log }
+        ensures counts { result.1.counts ≡ no_lines }
     {
         let watch = Watch::new(rt, rt.alloc(), tally, self.watching);
         let log = CountedLog::new(log, watch.sums() | self.records);
-        (WatchedStore::new(source, watch), log)
+        (Watched::new(source, watch), log)
     }
 
     /// Ends what is shown of it, which ended by this fault or says this itself of its lines, and
@@ -83,6 +84,7 @@ impl<'a> Account<'a> {
         ensures source { result.0 ≡ io.entry.0.source.source }
         ensures log { result.1 ≡ io.entry.1.log }
         ensures outcome { CameTo self.entry.watching.words ended result.2 }
+        ensures counts { result.2.counts ≡ counts_at ended io.entry.1.counts }
     {
         let (source, log) = io;
         let counts = match ended {

@@ -9,6 +9,7 @@ use crate::devices::DeviceParts;
 use crate::folders::Folders;
 use crate::guarded::make_guarded;
 use crate::operation::{Conclusion, Guarded, Operation, has_list};
+use crate::quick_audit::audit_by_lengths;
 use crate::recorded_options::options_of_audit;
 use crate::{AuditOptions, Feedback, Host, Machine};
 use pt_guard::Claim;
@@ -101,11 +102,16 @@ impl Operation for AuditOptions {
     where
         R: Reads + Clock + Eprint + AllocGlobal + Terminals,
     {
-        let expected = lines_expected(rt, self.feedback.expected_log());
+        let expected = lines_expected(rt, self.feedback.expected_log()).unwrap_or(None);
         let host_io = host.lend();
         // An audit's log can be made again, so it isn't put onto its disk.
         let file: Option<H::File> = None;
         let parts = DeviceParts { host_io, file };
+        if self.quick {
+            let (host_io, conclusion) = audit_by_lengths(rt, parts, self, expected, folders);
+            host.take_back(host_io);
+            return conclusion;
+        }
         let (host_io, conclusion) = audit_over(rt, parts, self, expected, folders);
         host.take_back(host_io);
         conclusion

@@ -8,7 +8,7 @@
 ghost use Rattle.std.specs.Prelude.{◌≡◌};
 ghost use Rattle.pt_folder.specs.HostSource.{system_of as store_system};
 ghost use Rattle.pt_host.specs.Audits.{AuditsOver, audit_call, audit_status, failed_calls};
-ghost use Rattle.pt_host.specs.Audits.{words_with};
+ghost use Rattle.pt_host.specs.Audits.{compare_by, words_with};
 ghost use Rattle.pt_host.specs.Durable.{LogFails};
 ghost use Rattle.pt_host.specs.Machine.{host_io_words};
 ghost use Rattle.pt_host.specs.ReadSteps.{FailsBetween};
@@ -24,13 +24,15 @@ use crate::operation::Conclusion;
 use crate::status::{DONE, FAILED, INCOMPLETE};
 use crate::stepped::SteppedFolder;
 use crate::traced::Traced;
-use crate::watched_store::WatchedStore;
 use crate::{AuditOptions, HostIo};
+use pt_audit::{AuditTask, CompareBy};
 use pt_extra::{AuditCounts, AuditEnd, ExtraDevices, audit};
 use pt_folder::{HostSource, System};
-use pt_messages::{CountedLog, LastCalls, Reads, Tally, Terminals, Totals, Watch, Words};
+use pt_messages::{
+    AuditTotals, CountedLog, LastCalls, Reads, Tally, Terminals, Totals, Watch, Words,
+};
 use pt_move::Fault;
-use pt_tree::Ignoring;
+use pt_tree::{Ignoring, Watched};
 use std::alloc::AllocGlobal;
 use std::rt::Clock;
 
@@ -55,7 +57,8 @@ where
 {
     let alloc = rt.alloc();
     let tally = Tally::new();
-    let watching = options.feedback.watching(words_of(options.extra), expected);
+    let by = compare_by(options.quick);
+    let watching = options.feedback.watching(words_of(options.extra, by), expected);
     let account = Account::new(watching, &options.feedback, &options.ignored, folders);
     let AuditSides { source, root, log } = open_sides(alloc, parts, options.ignored, folders);
     let (store, log) = account.watch(rt, &tally, source, log);
@@ -67,13 +70,14 @@ where
         log,
         explains: LastFailure,
     };
-    let end = audit(alloc, devices, options.job, options.extra, &tally);
+    let job = options.job;
+    let end = audit(alloc, devices, AuditTask { job, by }, options.extra, &tally);
     conclude(rt, account, end, options.skips_ok)
 }
 
 // An audit that has ended over a store and a log that are watched.
 type WatchedEnd<'w, 'a, R, S, D, W, F> = AuditEnd<
-    Traced<WatchedStore<Ignoring<HostSource<'a, S>>, Watch<'w, R>>>,
+    Traced<Watched<Ignoring<HostSource<'a, S>>, Watch<'w, R>>>,
     SteppedFolder<'a, D>,
     CountedLog<DurableLog<W, F>>,
     LastFailure,
@@ -130,26 +134,37 @@ fn ended(ran: &Result<AuditCounts, Fault>) -> Result<Totals, Fault>
     ensures { result ≡ audit_totals ran.now }
 {
     match ran {
-        Ok(told) => Ok(Totals::Audit {
+        Ok(told) => Ok(Totals::Audit(AuditTotals {
             same: told.counts.same,
             absent: told.counts.absent,
             differs: told.counts.differs,
             skips: told.counts.skipped,
             extra: told.numbers.extra,
             stray: told.numbers.stray,
-        }),
+        })),
         Err(fault) => Err(*fault),
     }
 }
 
+// What of files is compared.
+fn compare_by(quick: bool) -> CompareBy
+    ensures { result ≡ compare_by quick }
+{
+    if quick {
+        CompareBy::Lengths
+    } else {
+        CompareBy::Bytes
+    }
+}
+
 // Which lines its log has.
-fn words_of(with_extras: bool) -> Words
-    ensures { result ≡ words_with with_extras }
+fn words_of(with_extras: bool, by: CompareBy) -> Words
+    ensures { result ≡ words_with with_extras by }
 {
     if with_extras {
-        Words::BothWays
+        Words::BothWays(by)
     } else {
-        Words::Audit
+        Words::Audit(by)
     }
 }
 

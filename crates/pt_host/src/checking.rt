@@ -27,7 +27,8 @@ use crate::{CheckOptions, Feedback, Host, HostIo, Machine};
 use pt_check::{Check, CheckDevices, Numbers, Wants};
 use pt_folder::System;
 use pt_messages::{
-    LastCalls, Members, Reads, ReadsFiles, Tally, Terminals, Totals, Words, entries_expected,
+    CheckTotals, LastCalls, Members, Reads, ReadsFiles, Tally, Terminals, Totals, Words,
+    entries_expected,
 };
 use pt_move::Fault;
 use pt_walk::Form;
@@ -102,7 +103,7 @@ impl Operation for CheckOptions {
     where
         R: Reads + Clock + Eprint + AllocGlobal + Terminals,
     {
-        let expected = entries_expected(rt, self.feedback.expected_log());
+        let expected = entries_expected(rt, self.feedback.expected_log()).unwrap_or(None);
         let host_io = host.lend();
         // A check's log can be made again, so it isn't put onto its disk.
         let file: Option<H::File> = None;
@@ -185,12 +186,12 @@ fn ended(ran: &Result<Numbers, Fault>) -> Result<Totals, Fault>
     ensures { result ≡ check_totals ran.now }
 {
     match ran {
-        Ok(numbers) => Ok(Totals::Check {
+        Ok(numbers) => Ok(Totals::Check(CheckTotals {
             told: numbers.told,
             objects: numbers.objects,
             files: numbers.files,
             bytes: numbers.bytes,
-        }),
+        })),
         Err(fault) => Err(*fault),
     }
 }

@@ -12,8 +12,8 @@
 //! under its key (recorded_options.rt), and the folders as they were given (`BeginsWith`), and the
 //! second has its members too, and the status, the counts and the fault of what was made
 //! (`IsEndText`).
-ghost use Rattle.std.specs.Prelude.{◌≡◌, ◌++◌, Err, IfOk, List, OnOk, Some, codes, option_map};
-ghost use Rattle.std.specs.Prelude.{string_bytes, ℕ};
+ghost use Rattle.std.specs.Prelude.{◌≡◌, ◌++◌, Err, IfOk, List, None, OnOk, Some, codes};
+ghost use Rattle.std.specs.Prelude.{if◌then◌else◌, option_map, string_bytes, ℕ};
 ghost use Rattle.std.specs.Result.{result_ok};
 ghost use Rattle.pt_messages.specs.EventMembers.{event_members};
 ghost use Rattle.pt_messages.specs.Members.{line_of};
@@ -232,20 +232,21 @@ struct EventPaths<'a> {
 }
 
 impl<'a> EventPaths<'a> {
-    // Makes the file with a text, where it may lie and nothing stands there or at the other path.
+    // Makes the file with a text, where it may lie beside a store and a destination, if there is
+    // one, and nothing stands there or at the other path.
     fn make<R: AllocGlobal, H: Host>(
         self,
         rt: &R,
         host: &mut H,
-        folders: Folders<'_>,
+        at: (&str, Option<&str>),
         text: &str,
     ) -> Result<(), EventFault>
         ensures { MakesEvent ⟦<H as Machine>⟧.words
-            (folders.entry.store.now, folders.entry.folder.now)
+            (at.entry.0.now, option_map (λ dest. dest.now) at.entry.1)
             (record { file = self.entry.file.now; part = self.entry.part.now; text = text.now })
             host.old host.new result }
     {
-        judge_file(host, rt.alloc(), self.file, folders.store, folders.folder)?;
+        judge_file(host, rt.alloc(), self.file, at.0, at.1)?;
         self.make_unless_left(host, text)
     }
 
@@ -297,6 +298,18 @@ impl<'a> EventPaths<'a> {
     {
         make_new(host, (EventPath::Part, self.part), text)?;
         move_over(host, self.part, self.file)
+    }
+}
+
+// The destination of what is asked for, if it has one.
+fn dest_of<'a, O: Operation>(operation: &O, folder: &'a str) -> Option<&'a str>
+    ensures { option_map (λ dest. dest.now) result
+        ≡ (if O.with_dest then Some folder.entry.now else None) }
+{
+    if operation.has_dest() {
+        Some(folder)
+    } else {
+        None
     }
 }
 
@@ -375,7 +388,9 @@ where
         return Ok(None);
     };
     let file = EventFile::of(rt, path, operation, folders)?;
-    file.paths().make(rt, host, folders, file.text.as_str())?;
+    let dest = dest_of(operation, folders.folder);
+    file.paths()
+        .make(rt, host, (folders.store, dest), file.text.as_str())?;
     Ok(Some(file))
 }
 

@@ -4,7 +4,7 @@ ghost use Rattle.pt_folder.specs.Failure.{name_of};
 
 use pt_check::{Explains, UnlistedFolder};
 use pt_folder::{Failure, FailureReason, HostSource, System};
-use pt_tree::{Ignoring, ListsNamed, MemoryFault, NamePath, Source, TreeFault};
+use pt_tree::{Ignoring, ListsNamed, MemoryFault, NamePath, Source, TreeFault, Watched, Watcher};
 use std::alloc::Global;
 
 /// A source over a folder, which keeps why its last call failed.
@@ -22,6 +22,12 @@ impl<'a, S: System> KeepsFailure for HostSource<'a, S> {
 impl<'a, S: System> KeepsFailure for Ignoring<HostSource<'a, S>> {
     fn kept_failure(&self) -> Option<&Failure> {
         self.source().last_failure()
+    }
+}
+
+impl<S: KeepsFailure, W: Watcher + Drop> KeepsFailure for Watched<S, W> {
+    fn kept_failure(&self) -> Option<&Failure> {
+        self.source().kept_failure()
     }
 }
 

@@ -50,6 +50,7 @@ mod machine;
 mod operation;
 mod options;
 mod output;
+mod quick_audit;
 mod recorded_options;
 mod room;
 mod run;
@@ -60,7 +61,6 @@ mod stepped;
 mod text;
 mod traced;
 mod unmet;
-mod watched_store;
 
 pub use audit::audit_guarded;
 pub use checking::check_store;

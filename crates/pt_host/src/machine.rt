@@ -1,5 +1,6 @@
 //! What a machine's calls may answer and leave, as one word.
 ghost use Rattle.pt_host.specs.Machine.{MachineWords, host_io_words};
+ghost use Rattle.pt_host.specs.SeenByLengths.{FailsSeen};
 ghost use Rattle.pt_host.specs.ReadSteps.{FailsBetween};
 ghost use Rattle.pt_host.specs.Served.{Serves};
 
@@ -35,6 +36,8 @@ where
       serves = Serves H.Folder.System H.Folder.File.Handle.own
           H.Folder.File.Input H.Folder.Dir.Input;
       fails = FailsBetween H.Folder.System H.Folder.File.Handle.own
+          H.Folder.File.Input H.Folder.Dir.Input;
+      fails_seen = FailsSeen H.Folder.System H.Folder.File.Handle.own
           H.Folder.File.Input H.Folder.Dir.Input;
     } };
 }

@@ -46,6 +46,8 @@ pub struct AuditOptions {
     pub skips_ok: bool,
     /// Whether it tells too of what the root has and the store lacks.
     pub extra: bool,
+    /// Whether names and lengths alone are compared, and no file of an object is read.
+    pub quick: bool,
     /// What is shown of it beside its log.
     pub feedback: Feedback,
 }

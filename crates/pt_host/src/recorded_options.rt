@@ -51,6 +51,7 @@ pub(crate) fn options_of_audit(alloc: Global, options: &AuditOptions) -> Result<
     members.put_names("ignore", options.ignored.names())?;
     members.put_flag("skips-ok", options.skips_ok)?;
     members.put_flag("extra", options.extra)?;
+    members.put_flag("quick", options.quick)?;
     put_feedback(&mut members, &options.feedback)?;
     Ok(members)
 }

@@ -125,7 +125,7 @@ impl Operation for RunOptions {
             Ok(file) => file,
             Err(_) => return unsynced_end(rt.alloc()),
         };
-        let expected = lines_expected(rt, self.feedback.expected_log());
+        let expected = lines_expected(rt, self.feedback.expected_log()).unwrap_or(None);
         let host_io = host.lend();
         let parts = DeviceParts { host_io, file };
         let devices = open_devices(rt.alloc(), parts, &self, folders);

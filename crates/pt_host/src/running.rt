@@ -31,7 +31,7 @@ use crate::operation::Conclusion;
 use crate::status::{DONE, FAILED, INCOMPLETE};
 use crate::{AllowedLines, HostIo, RunOptions};
 use pt_folder::{HostDest, System};
-use pt_messages::{LastCalls, Reads, Tally, Terminals, Totals, Words};
+use pt_messages::{LastCalls, Reads, RunTotals, Tally, Terminals, Totals, Words};
 use pt_move::{Completion, Fault, Job, Report, migrate_observed};
 use pt_name::UnmetIdentifiers;
 use pt_rehearsal::Rehearsal;
@@ -167,11 +167,11 @@ fn ended(ran: &Result<Report, Fault>) -> Result<Totals, Fault>
     ensures { result ≡ run_totals ran.now }
 {
     match ran {
-        Ok(report) => Ok(Totals::Run {
+        Ok(report) => Ok(Totals::Run(RunTotals {
             done: report.done,
             present: report.present,
             skips: report.skipped,
-        }),
+        })),
         Err(fault) => Err(*fault),
     }
 }

@@ -186,6 +186,7 @@ pub fn audit(rt: &HostRuntime, machine: &mut Machine<'_>) -> Option<u8> {
         ignored: ignored(machine.alloc, false)?,
         skips_ok: false,
         extra: false,
+        quick: false,
         feedback: NOTHING_SHOWN,
     };
     Some(audit_guarded(&HostMachine::new(rt), machine, options, "store", "root"))

@@ -10,7 +10,7 @@ ghost use Rattle.pt_folder.specs.Folder.{IsKind};
 ghost use Rattle.pt_folder.specs.Untold.{no_fails, no_forest, no_kept, no_paths, unknown};
 ghost use Rattle.pt_folder.specs.Untold.{untold_dir, untold_fails, untold_fails_at};
 ghost use Rattle.pt_folder.specs.Untold.{untold_fails_still, untold_fails_told, untold_file};
-ghost use Rattle.pt_folder.specs.Untold.{untold_kind, untold_look, untold_move};
+ghost use Rattle.pt_folder.specs.Untold.{untold_kind, untold_length, untold_look, untold_move};
 ghost use Rattle.pt_folder.specs.Untold.{untold_names, untold_open, untold_peek, untold_proper};
 ghost use Rattle.pt_folder.specs.Untold.{untold_tree, untold_write};
 ghost use Rattle.pt_machine.specs.Options.{for_making, for_reading};
@@ -84,6 +84,8 @@ impl<'a, R: Files> System for HostMachine<'a, R> {
 
     ghost looks = { λ _ _ _ _. ⊤ };
 
+    ghost measures = { λ _ _ _ _. ⊤ };
+
     ghost opens = { λ _ _ _ _. ⊤ };
 
     ghost makes_file = { λ _ _ _ _. ⊤ };
@@ -97,6 +99,8 @@ impl<'a, R: Files> System for HostMachine<'a, R> {
     ghost writes = { λ _ _ _ _ _ _. ⊤ };
 
     ghost look_law = { λ old new folder p reply named can by. untold_look p reply };
+
+    ghost length_law = { λ old new folder p reply named can by. untold_length p reply };
 
     ghost open_law = { λ old new folder p reply named can by. untold_open p reply };
 
@@ -135,6 +139,11 @@ impl<'a, R: Files> System for HostMachine<'a, R> {
     // lstat: a link is not followed.
     fn lstat(&mut self, path: &str) -> io::Result<Kind> {
         Ok(kind_of(&self.rt.symlink_metadata(path)?))
+    }
+
+    // lstat: a link is not followed, and no file is opened.
+    fn lstat_length(&mut self, path: &str) -> io::Result<u64> {
+        Ok(self.rt.symlink_metadata(path)?.len())
     }
 
     // open, to read.

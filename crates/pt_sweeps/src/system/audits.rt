@@ -10,11 +10,11 @@ use pt_memory_system::Faults;
 use std::alloc::AllocGlobal;
 
 /// Audits that are stopped after no call, after one, after two and so on, until one isn't stopped.
-pub fn check_audits(rt: &HostRuntime, case: &Case) -> Option<Found> {
-    let told = case.tells_audit(rt.alloc())?;
+pub fn check_audits(rt: &HostRuntime, case: &Case, quick: bool) -> Option<Found> {
+    let told = case.tells_audit(rt.alloc(), quick)?;
     let mut unlisted = 0u32;
     for passing in 0..10_000u64 {
-        let (status, stop) = stop_audit(rt, case, &told, passing)?;
+        let (status, stop) = stop_audit(rt, case, &told, passing, quick)?;
         match stop {
             Stop::Well => unlisted = unlisted.wrapping_add(u32::from(status == 1)),
             Stop::Otherwise(why) => return Some(Found::Otherwise(why)),
@@ -29,13 +29,19 @@ pub fn check_audits(rt: &HostRuntime, case: &Case) -> Option<Found> {
 }
 
 // The status of an audit of which so many calls pass, and what of it.
-fn stop_audit(rt: &HostRuntime, case: &Case, told: &Expected, passing: u64) -> Option<(u8, Stop)> {
+fn stop_audit(
+    rt: &HostRuntime,
+    case: &Case,
+    told: &Expected,
+    passing: u64,
+    quick: bool,
+) -> Option<(u8, Stop)> {
     let alloc = rt.alloc();
     let mut store = MemSource::new(alloc);
     add(alloc, &mut store, case.store).ok()?;
     let faults = Faults::new();
     faults.fail_after(Some(passing));
-    let audited = audit(rt, &faults, store, case.root_with_more(alloc)?)?;
+    let audited = audit(rt, &faults, store, case.root_with_more(alloc)?, quick)?;
     let stop = if faults.calls() > passing {
         told.check_stopped(&audited)?
     } else if audited.status != told.status {

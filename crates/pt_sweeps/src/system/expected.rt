@@ -39,10 +39,10 @@ impl Case {
     }
 
     /// What an audit of both ways must tell of a root with each object whole, and with what is
-    /// planted beside them.
-    pub fn tells_audit(&self, alloc: Global) -> Option<Expected> {
+    /// planted beside them, by bytes or by lengths.
+    pub fn tells_audit(&self, alloc: Global, quick: bool) -> Option<Expected> {
         let mut log = String::new(alloc);
-        let (mut same, mut skip) = (0u32, 0u32);
+        let (mut fitting, mut skip) = (0u32, 0u32);
         for met in self.met {
             match met {
                 Met::Skip(line) => {
@@ -50,22 +50,41 @@ impl Case {
                     skip = skip.wrapping_add(1);
                 }
                 Met::Object(object) => {
-                    log.push_str("{\"as\":\"same\"").ok()?;
-                    log.push_str(object.done.strip_prefix("{\"as\":\"done\"")?)
-                        .ok()?;
-                    same = same.wrapping_add(1);
+                    push_fitting(&mut log, object.done, quick)?;
+                    fitting = fitting.wrapping_add(1);
                 }
             }
         }
         log.push_str(beside::LINES).ok()?;
-        let end = format!(in alloc;
-            "{{\"absent\":0,\"as\":\"end\",\"differs\":0,{},\"same\":{same},\"skip\":{skip},{}}}\n",
-            beside::EXTRA,
-            beside::STRAY
-        );
+        let (extra, stray) = (beside::EXTRA, beside::STRAY);
+        let end = if quick {
+            format!(in alloc;
+                "{{\"absent\":0,\"alike\":{fitting},\"as\":\"end\",\"differs\":0,{extra},\"skip\":{skip},{stray}}}\n"
+            )
+        } else {
+            format!(in alloc;
+                "{{\"absent\":0,\"as\":\"end\",\"differs\":0,{extra},\"same\":{fitting},\"skip\":{skip},{stray}}}\n"
+            )
+        };
         log.push_str(end.ok()?.as_str()).ok()?;
         Some(Expected { status: 1, log })
     }
+}
+
+// The line of an object that fits, by that of the run that carried it: by lengths neither bytes nor
+// empty folders are told.
+fn push_fitting(log: &mut String, done: &str, quick: bool) -> Option<()> {
+    let members = done.strip_prefix("{\"as\":\"done\"")?;
+    if !quick {
+        log.push_str("{\"as\":\"same\"").ok()?;
+        return log.push_str(members).ok();
+    }
+    let (at, rest) = members.split_once(",\"bytes\":")?;
+    let (_, files) = rest.split_once(",\"files\":")?;
+    log.push_str("{\"as\":\"alike\"").ok()?;
+    log.push_str(at).ok()?;
+    log.push_str(",\"files\":").ok()?;
+    log.push_str(files).ok()
 }
 
 impl Counts {

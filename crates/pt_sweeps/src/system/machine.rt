@@ -151,12 +151,14 @@ pub struct AuditResult {
     pub log: Vec<u8>,
 }
 
-/// Holds a root against a store, both ways. None where the machine can't be made.
+/// Holds a root against a store, both ways, by bytes or by lengths. None where the machine can't be
+/// made.
 pub fn audit(
     rt: &HostRuntime,
     faults: &Faults,
     store: MemSource,
     root: MemSource,
+    quick: bool,
 ) -> Option<AuditResult> {
     let alloc = rt.alloc();
     let mut machine = Machine {
@@ -167,7 +169,7 @@ pub fn audit(
             output: Vec::new(alloc),
         },
     };
-    let options = audit_options(alloc)?;
+    let options = audit_options(alloc, quick)?;
     let status = audit_guarded(
         &HostMachine::new(rt),
         &mut machine,
@@ -273,12 +275,13 @@ fn run_options(alloc: Global, rehearse: bool) -> Option<RunOptions> {
     })
 }
 
-fn audit_options(alloc: Global) -> Option<AuditOptions> {
+fn audit_options(alloc: Global, quick: bool) -> Option<AuditOptions> {
     Some(AuditOptions {
         job: make_job(alloc)?,
         ignored: Ignored::new(alloc),
         skips_ok: false,
         extra: true,
+        quick,
         feedback: NOTHING_SHOWN,
     })
 }

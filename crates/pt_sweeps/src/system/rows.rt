@@ -32,6 +32,8 @@ pub enum Row {
     /// An audit of both ways, of a root that has more than the store: stopped at each call in turn,
     /// and whole.
     Audit,
+    /// The same by lengths.
+    QuickAudit,
 }
 
 /// Tries a row over a case.
@@ -47,7 +49,8 @@ fn try_row_on(rt: &HostRuntime, case: &Case, row: Row, ran: &mut RunResult) -> O
         Row::RehearseBefore => check_rehearsal_before(rt, case, ran),
         Row::RehearseAfter => check_rehearsal_after(rt, case, ran),
         Row::Stop => check_each_stop(rt, case, ran),
-        Row::Audit => check_audits(rt, case),
+        Row::Audit => check_audits(rt, case, false),
+        Row::QuickAudit => check_audits(rt, case, true),
     }
 }
 

@@ -2,7 +2,9 @@ use Rattle.std.proofs.Common.{ap, refl, sym, subst, ◌∙◌}
 use Rattle.std.specs.Prelude.{OnOk}
 use Rattle.std.specs.Option.{ForSome}
 use Rattle.pt_audit.specs.Layout.{IsOfLayout}
-use Rattle.pt_host.specs.Audits.{audit_call, failed_calls, store_view}
+use Rattle.pt_audit.specs.Auditing.{start_over}
+use Rattle.pt_extra.specs.Audits.{AuditLogs}
+use Rattle.pt_host.specs.Audits.{audit_call, failed_calls, root_seen, store_seen, store_view, words_with}
 use Rattle.pt_host.specs.Durable.{LogFails}
 use Rattle.pt_host.specs.Machine.{host_io_words}
 use Rattle.pt_host.specs.ReadSteps.{FailsBetween}
@@ -60,7 +62,7 @@ returns g c =
     ) in
     let put-fails = LogFails g.W.Writes.writes g.F.SyncsOutput.puts in
     let log-failed : HasRisen log-before.failures log-after.failures → log_fails old.output new.output = λ risen.
-    let failed = risen_put g.W.Writes.writes g.F.SyncsOutput.puts log-before log-after made.log.0
+    let failed = risen_put g.W.Writes.writes g.F.SyncsOutput.puts log-before log-after made.log.0.0
     (ap (λ l. l.failures) c.watch-store.ensures.log ∙ opened.log.1) risen in
     subst (λ o. put-fails c.args.parts.file old.output o) (sym end.output)
     (subst (λ w. put-fails c.args.parts.file w log-after.writer) (ap (λ l. l.writer) c.watch-store.ensures.log ∙ opened.log.0)
@@ -70,8 +72,10 @@ returns g c =
     (ap (λ w. w.source.reading) ignoring ∙ opened.unread.0) (ap (λ w. w.source.failures) ignoring ∙ opened.unread.1) risen made.sides.source.0.fails in
     record {
       ran = ran;
-      ends = ends_as c.args.options.extra (root_fails call.folder old.folder new.folder) ran (job_of job) store folder first (ap contents (sym end.output))
-          (logs_by root-failed c.args.options.extra (job_of job) _ _ ran made.ends);
+      ends = subst (λ b. AuditLogs c.args.options.extra (root_fails call.folder old.folder new.folder) (job_of job)
+          (start_over b (store_seen words call old) (root_seen words call old) (contents old.output)) (contents new.output) ran) c.compare_by-by.ensures
+          (ends_as c.args.options.extra (root_fails call.folder old.folder new.folder) ran (job_of job) _ store folder first
+          (ap contents (sym end.output)) (logs_by root-failed c.args.options.extra (job_of job) _ _ ran made.ends));
       layout = subst (λ t. OnOk ran (ForSome t (IsOfLayout (job_of job)))) folder made.layout;
       says = says_as ran job store folder made.says;
       blames = of_failed words (failed_calls root_fails log_fails) call old new c.args.options.extra _ _ ran made.blames store-failed root-failed
@@ -82,6 +86,7 @@ returns g c =
       grows = subst (λ l. Grows l (contents new.output)) first (subst (Grows _) (ap contents (sym end.output)) made.log.1);
       status_is = end.status;
       came = came_so _ _ _ _ c.conclude.result.1.outcome
-          (ap (λ w. w.words) (c.new-account.ensures ∙ c.watching-watching.ensures) ∙ c.words_of.ensures) refl end.came;
+          (ap (λ w. w.words) (c.new-account.ensures ∙ c.watching-watching.ensures) ∙ c.words_of.ensures
+          ∙ ap (words_with c.args.options.extra) c.compare_by-by.ensures) refl end.came;
       unmet = unmet_as ran job store end.unmet made.unmet;
     }

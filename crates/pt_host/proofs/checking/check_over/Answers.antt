@@ -44,7 +44,7 @@ returns g c =
     λ risen. subst (λ o. put-fails c.args.parts.file c.args.parts.host_io.output o) (sym output)
     (subst (λ w. put-fails c.args.parts.file w log-after.writer) (ap (λ l. l.writer) before ∙ opened.log.0)
     (subst (λ f. put-fails f log-before.writer log-after.writer) (ap (λ l. l.file) before ∙ opened.log_synced)
-    (risen_put g.W.Writes.writes g.F.SyncsOutput.puts log-before log-after made.keeps.log_stays (ap (λ l. l.failures) before ∙ opened.log.1) risen))) in
+    (risen_put g.W.Writes.writes g.F.SyncsOutput.puts log-before log-after made.keeps.log_stays.0 (ap (λ l. l.failures) before ∙ opened.log.1) risen))) in
     record {
       ran = c.run-ran.result;
       checks = checks_as c.run-ran.result (check_call c.args.options c.args.folders.store.now) _ _ (ap (λ k. k.share) of)

@@ -1,10 +1,11 @@
-use Rattle.std.proofs.Common.{◌≡◌, ◌∙◌, ℕ, List, ap, sym}
+use Rattle.std.proofs.Common.{◌≡◌, ◌∙◌, ℕ, Err, List, Ok, ap, subst, sym}
 use Rattle.std.proofs.lemmas.Result.{err_from_is_err_and}
-use Rattle.std.specs.Prelude.{option_map}
+use Rattle.std.specs.Prelude.{Option, option_map}
 use Rattle.pt_host.proofs.Recorded.{begun_event, unbegun_event, unmade_event}
-use Rattle.pt_host.specs.Events.{EventHead, event_head}
+use Rattle.pt_host.specs.Events.{EventHead, MakesEvent, event_head}
 use Rattle.pt_host.specs.Machine.{MachineWords, host_io_words}
 use Rattle.pt_host.specs.ReadSteps.{FailsBetween}
+use Rattle.pt_host.specs.SeenByLengths.{FailsSeen}
 use Rattle.pt_host.specs.Served.{Serves}
 use Rattle.pt_host.specs.declared.event.EventFault.TheVariants as fault
 use Rattle.pt_host.proofs.event.begin_event.Goals as goal
@@ -27,6 +28,7 @@ returns g c =
       read = host_io_words g.H.Store.System.forest g.H.Store.System.failing g.H.Folder.System.forest g.H.Output.Write.contents;
       serves = Serves g.H.Folder.System g.H.Folder.File.Handle g.H.Folder.File.Input g.H.Folder.Dir.Input;
       fails = FailsBetween g.H.Folder.System g.H.Folder.File.Handle g.H.Folder.File.Input g.H.Folder.Dir.Input;
+      fails_seen = FailsSeen g.H.Folder.System g.H.Folder.File.Handle g.H.Folder.File.Input g.H.Folder.Dir.Input;
     } in
     let at : List ℕ × List ℕ = (c.args.folders.store.now, c.args.folders.folder.now) in
     let head : EventHead = event_head (g.O.Operation.word_of c.args.operation.now) at g.O.Operation.with_dest
@@ -36,7 +38,10 @@ returns g c =
     c.args.host.now c.make.new.host
     (sym (c.event.ensures ∙ ap (λ f. f.event) c.feedback.ensures) ∙ ap (option_map (λ p. p.now)) c.in-Some.is)
     c.in_ok-file.ensures.path c.in_ok-file.ensures.part c.paths.ensures.file c.paths.ensures.part
-    (c.as_str.ensures.value ∙ c.in_ok-file.ensures.text) c.in_ok-file.ensures.begun c.in_ok-make.ensures
+    (c.as_str.ensures.value ∙ c.in_ok-file.ensures.text) c.in_ok-file.ensures.begun
+    (subst (λ (dest : Option (List ℕ)). MakesEvent words (c.args.folders.store.now, dest)
+    (record { file = c.paths.result.file.now; part = c.paths.result.part.now; text = c.as_str.result.now }) c.args.host.now c.make.new.host (Ok tt))
+    c.dest_of-dest.ensures c.in_ok-make.ensures)
 
 pub returns-in_err-file : goal.returns-in_err-file
 returns-in_err-file g c =
@@ -56,6 +61,7 @@ returns-in_err-file g c =
       read = host_io_words g.H.Store.System.forest g.H.Store.System.failing g.H.Folder.System.forest g.H.Output.Write.contents;
       serves = Serves g.H.Folder.System g.H.Folder.File.Handle g.H.Folder.File.Input g.H.Folder.Dir.Input;
       fails = FailsBetween g.H.Folder.System g.H.Folder.File.Handle g.H.Folder.File.Input g.H.Folder.Dir.Input;
+      fails_seen = FailsSeen g.H.Folder.System g.H.Folder.File.Handle g.H.Folder.File.Input g.H.Folder.Dir.Input;
     } in
     let at : List ℕ × List ℕ = (c.args.folders.store.now, c.args.folders.folder.now) in
     let head : EventHead = event_head (g.O.Operation.word_of c.args.operation.now) at g.O.Operation.with_dest
@@ -84,6 +90,7 @@ returns-in_err-make g c =
       read = host_io_words g.H.Store.System.forest g.H.Store.System.failing g.H.Folder.System.forest g.H.Output.Write.contents;
       serves = Serves g.H.Folder.System g.H.Folder.File.Handle g.H.Folder.File.Input g.H.Folder.Dir.Input;
       fails = FailsBetween g.H.Folder.System g.H.Folder.File.Handle g.H.Folder.File.Input g.H.Folder.Dir.Input;
+      fails_seen = FailsSeen g.H.Folder.System g.H.Folder.File.Handle g.H.Folder.File.Input g.H.Folder.Dir.Input;
     } in
     let at : List ℕ × List ℕ = (c.args.folders.store.now, c.args.folders.folder.now) in
     let head : EventHead = event_head (g.O.Operation.word_of c.args.operation.now) at g.O.Operation.with_dest
@@ -95,4 +102,7 @@ returns-in_err-make g c =
     c.in-Some.path.now c.in_ok-file.file (record { file = c.paths.result.file.now; part = c.paths.result.part.now; text = c.as_str.result.now })
     c.args.host.now c.make.new.host c.in_err-make.field-0.0 given
     c.in_ok-file.ensures.path c.in_ok-file.ensures.part c.paths.ensures.file c.paths.ensures.part
-    (c.as_str.ensures.value ∙ c.in_ok-file.ensures.text) c.in_ok-file.ensures.begun c.in_err-make.ensures)
+    (c.as_str.ensures.value ∙ c.in_ok-file.ensures.text) c.in_ok-file.ensures.begun
+    (subst (λ (dest : Option (List ℕ)). MakesEvent words (c.args.folders.store.now, dest)
+    (record { file = c.paths.result.file.now; part = c.paths.result.part.now; text = c.as_str.result.now }) c.args.host.now c.make.new.host
+    (Err c.in_err-make.field-0.0)) c.dest_of-dest.ensures c.in_err-make.ensures))

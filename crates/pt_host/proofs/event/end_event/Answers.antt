@@ -4,6 +4,7 @@ use Rattle.pt_host.proofs.Recorded.{ends_so}
 use Rattle.pt_host.specs.Events.{IsEndText}
 use Rattle.pt_host.specs.Machine.{MachineWords, host_io_words}
 use Rattle.pt_host.specs.ReadSteps.{FailsBetween}
+use Rattle.pt_host.specs.SeenByLengths.{FailsSeen}
 use Rattle.pt_host.specs.Served.{Serves}
 use Rattle.pt_host.proofs.event.end_event.Goals as goal
 
@@ -25,6 +26,7 @@ returns-in-Ok g c =
       read = host_io_words g.H.Store.System.forest g.H.Store.System.failing g.H.Folder.System.forest g.H.Output.Write.contents;
       serves = Serves g.H.Folder.System g.H.Folder.File.Handle g.H.Folder.File.Input g.H.Folder.Dir.Input;
       fails = FailsBetween g.H.Folder.System g.H.Folder.File.Handle g.H.Folder.File.Input g.H.Folder.Dir.Input;
+      fails_seen = FailsSeen g.H.Folder.System g.H.Folder.File.Handle g.H.Folder.File.Input g.H.Folder.Dir.Input;
     } in
     let file = c.in-Some.file in rw c.in-Some.is (
       Ok c.in-Ok.field-0,
@@ -54,6 +56,7 @@ returns g c =
       read = host_io_words g.H.Store.System.forest g.H.Store.System.failing g.H.Folder.System.forest g.H.Output.Write.contents;
       serves = Serves g.H.Folder.System g.H.Folder.File.Handle g.H.Folder.File.Input g.H.Folder.Dir.Input;
       fails = FailsBetween g.H.Folder.System g.H.Folder.File.Handle g.H.Folder.File.Input g.H.Folder.Dir.Input;
+      fails_seen = FailsSeen g.H.Folder.System g.H.Folder.File.Handle g.H.Folder.File.Input g.H.Folder.Dir.Input;
     } in
     let file = c.in-Some.file in rw c.in-Some.is (
       Err c.in-Err.fault,

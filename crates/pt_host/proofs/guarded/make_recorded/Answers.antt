@@ -6,6 +6,7 @@ use Rattle.pt_host.specs.Events.{EventHead, event_head}
 use Rattle.pt_host.specs.Machine.{MachineWords, host_io_words}
 use Rattle.pt_host.specs.Operation.{Makes}
 use Rattle.pt_host.specs.ReadSteps.{FailsBetween}
+use Rattle.pt_host.specs.SeenByLengths.{FailsSeen}
 use Rattle.pt_host.specs.Served.{Serves}
 use Rattle.pt_host.specs.declared.operation.Conclusion.{Conclusion}
 use Rattle.pt_host.proofs.guarded.make_recorded.Goals as goal
@@ -28,6 +29,7 @@ returns-in-Ok g c =
       read = host_io_words g.H.Store.System.forest g.H.Store.System.failing g.H.Folder.System.forest g.H.Output.Write.contents;
       serves = Serves g.H.Folder.System g.H.Folder.File.Handle g.H.Folder.File.Input g.H.Folder.Dir.Input;
       fails = FailsBetween g.H.Folder.System g.H.Folder.File.Handle g.H.Folder.File.Input g.H.Folder.Dir.Input;
+      fails_seen = FailsSeen g.H.Folder.System g.H.Folder.File.Handle g.H.Folder.File.Input g.H.Folder.Dir.Input;
     } in
     let reading : FileWords = record {
       File = g.row.R-Opened.Denot;
@@ -63,6 +65,7 @@ returns-in-Err g c =
       read = host_io_words g.H.Store.System.forest g.H.Store.System.failing g.H.Folder.System.forest g.H.Output.Write.contents;
       serves = Serves g.H.Folder.System g.H.Folder.File.Handle g.H.Folder.File.Input g.H.Folder.Dir.Input;
       fails = FailsBetween g.H.Folder.System g.H.Folder.File.Handle g.H.Folder.File.Input g.H.Folder.Dir.Input;
+      fails_seen = FailsSeen g.H.Folder.System g.H.Folder.File.Handle g.H.Folder.File.Input g.H.Folder.Dir.Input;
     } in
     let reading : FileWords = record {
       File = g.row.R-Opened.Denot;

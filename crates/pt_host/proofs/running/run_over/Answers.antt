@@ -54,8 +54,8 @@ returns g c =
         (dest, made.served, sym c.into_system-2.ensures, refl),
       );
       logged = λ none. rw (c.into_writer.ensures, c.close-source.ensures.log, c.status_of-status.ensures, ← c.watch-source.ensures.log)
-          (logged g.W.Writes.writes g.F.SyncsOutput.puts c.args.options.allowed log-before log-after ran made.log counts (unfailed ∙ none));
+          (logged g.W.Writes.writes g.F.SyncsOutput.puts c.args.options.allowed log-before log-after ran made.log.0 counts (unfailed ∙ none));
       log_fails = λ none. rw (c.into_writer.ensures, c.close-source.ensures.log, ← c.watch-source.ensures.log)
-          (log_blamed g.W.Writes.writes g.F.SyncsOutput.puts log-before log-after ran _ made.log counts (unfailed ∙ none)
+          (log_blamed g.W.Writes.writes g.F.SyncsOutput.puts log-before log-after ran _ made.log.0 counts (unfailed ∙ none)
           (c.close-source.ensures.outcome.1 ∙ ap (λ e. result_err e) c.ended.ensures ∙ run_fault ran));
     }

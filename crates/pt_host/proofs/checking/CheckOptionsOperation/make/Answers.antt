@@ -12,7 +12,7 @@ returns g c =
       goes = g.R.Opened.Handle.goes;
       reads = g.R.Opened.Input.reads;
     } in (
-      subst (AsksEnd reading) c.expected_log.ensures c.entries_expected-expected.ensures,
+      subst (AsksEnd reading) c.expected_log.ensures c.entries_expected.ensures.asks,
       c.lend-host_io.result,
       c.lend-host_io.new.self,
       c.lend-host_io.ensures,

@@ -22,7 +22,7 @@ returns g c =
       c.synced_output.new.host,
       c.in-Ok.ensures,
       (
-        subst (AsksEnd reading) c.expected_log.ensures c.lines_expected-expected.ensures,
+        subst (AsksEnd reading) c.expected_log.ensures c.lines_expected.ensures.asks,
         c.lend-host_io.result,
         c.lend-host_io.new.self,
         c.lend-host_io.ensures,
