@@ -10,6 +10,7 @@ KEYS = {
     "done": OBJECT,
     "present": ("at", "id", "to"),
     "same": OBJECT,
+    "alike": ("at", "files", "id", "to"),
     "absent": ("at", "id", "to"),
     "differs": ("at", "id", "path", "to", "why"),
     "skip": ("at", "cause"),
@@ -22,8 +23,10 @@ KEYS = {
 LACKED = {"stray": {"reason"}}
 # The keys of an end line, and of which log it is.
 AUDIT = ("absent", "differs", "same", "skip")
+QUICK = ("absent", "alike", "differs", "skip")
 CHECK = ("bytes", "files", "folders", "largest", "longest", "objects", "sites", "told")
-ENDS = {("done", "present", "skip"): "run", AUDIT: "audit", (*AUDIT, "extra", "stray"): "audit", CHECK: "check"}
+AUDITS = {(*keys, *more): "audit" for keys in (AUDIT, QUICK) for more in ((), ("extra", "stray"))}
+ENDS = {("done", "present", "skip"): "run", **AUDITS, CHECK: "check"}
 # What a check counts class by class: sites and objects by their depth, files and bytes by the digits of a length; and how many classes there are.
 CLASSES = {"sites_at": 33, "objects_at": 33, "files_of": 21, "bytes_of": 21}
 # The end line of a check has one of these too for each kind that it told, for each class of which it counted something, and for objects that are renamed.
@@ -52,7 +55,7 @@ ID_AT = {kind: keys.index("id") for kind, keys in KEYS.items() if {"at", "id"} <
 # Lines that tell how large an object is.
 MEASURED = ("done", "same")
 # How lines begin that tell of nothing that is wanting.
-STANDS = tuple(f'{{"as":"{kind}"'.encode() for kind in ("done", "present", "same", "differs", "extra", "stray"))
+STANDS = tuple(f'{{"as":"{kind}"'.encode() for kind in ("done", "present", "same", "alike", "differs", "extra", "stray"))
 
 
 def parsed(line):

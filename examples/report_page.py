@@ -164,9 +164,9 @@ class Page:
             (so_many(state.empty, "empty folder"), "of these objects not carried"),
         ]
         yield f'<ul class="tiles">\n{"".join(f"<li><b>{text}</b>{name}</li>" for text, name in tiles)}\n</ul>\n'
-        yield "<p>These are of the last state: of each folder the last line that names it counts, and a <code>present</code> line leaves what was known "
-        yield "of it. A skip of <code>root</code> or <code>empty</code> names no object, so nothing is missing there. What stands below is added up over "
-        yield "the logs.</p>\n"
+        yield "<p>These are of the last state: of each folder the last line that names it counts, and a <code>present</code> or <code>alike</code> line leaves "
+        yield "what was known of it. A skip of <code>root</code> or <code>empty</code> names no object, so nothing is missing there. What stands below is "
+        yield "added up over the logs.</p>\n"
 
     def notes(self):
         """What is odd about the logs."""

@@ -52,7 +52,8 @@ class Sites:
     object that was carried or found the same its bytes, files and empty folders."""
 
     SKIP, NOTHING, DONE, PRESENT, SAME, ABSENT, DIFFERS = range(7)
-    SAYS = {"done": DONE, "present": PRESENT, "same": SAME, "absent": ABSENT, "differs": DIFFERS}
+    # A quick audit looks into no file, so what is alike is no more than present.
+    SAYS = {"done": DONE, "present": PRESENT, "alike": PRESENT, "same": SAME, "absent": ABSENT, "differs": DIFFERS}
     # These causes name no object that is wanting.
     OF_NONE = (b"root", b"empty")
 
@@ -174,7 +175,7 @@ class Log:
 
     def what(self):
         """What it is the log of, by its lines."""
-        kinds = {"run": ("done", "present"), "audit": ("same", "absent", "differs", "extra", "stray"), "check": tuple(TROUBLES)}
+        kinds = {"run": ("done", "present"), "audit": ("same", "alike", "absent", "differs", "extra", "stray"), "check": tuple(TROUBLES)}
         found = [what for what in kinds if what in self.ended_as or any(self.kinds[kind] for kind in kinds[what])]
         return " and ".join(found).replace("run", "run or rehearsal") or "not told by its lines"
 
@@ -232,7 +233,7 @@ class Report:
             twins.note(values[ID_AT[kind]], values[0])
             if kind in MEASURED:
                 self.take_object(log, *values)
-            elif kind != "present":
+            elif kind not in ("present", "alike"):
                 self.take_unlike(log, dict(zip(KEYS[kind], values)))
 
     def take_extra(self, kind, said, place, log):

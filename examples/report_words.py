@@ -4,6 +4,7 @@ MEANINGS = {
     "done": "The object was carried.",
     "present": "Something stood at its place already; it was left as it is, and not looked into.",
     "same": "At its place stands just what a run makes of it.",
+    "alike": "At its place stand files of the same names and lengths, with an inventory of theirs; their bytes weren't compared.",
     "absent": "Nothing stands at its place.",
     "differs": "Something else stands at its place.",
     "skip": "The folder was passed over.",
@@ -97,7 +98,7 @@ tfoot { font-weight: 600; }
 #sizes .bar { width: 70%; }
 .bar i { display: block; height: .85rem; margin-top: .27rem; min-width: 1px; background: var(--bar);
   -webkit-print-color-adjust: exact; print-color-adjust: exact; }
-.done, .same { --bar: var(--done); } .present { --bar: var(--present); } .absent { --bar: var(--absent); }
+.done, .same { --bar: var(--done); } .present, .alike { --bar: var(--present); } .absent { --bar: var(--absent); }
 .skip, .extra, .stray, #causes, #troubles { --bar: var(--skip); } .differs, #whys { --bar: var(--differs); }
 code, bdi { font-family: ui-monospace, monospace; font-size: .95em; white-space: pre-wrap; overflow-wrap: anywhere; }
 footer { margin-top: 3rem; font-size: .9rem; }

@@ -307,6 +307,8 @@ CASES = [
     *cases_over(None),
     *cases_over("small"),
     Looking("an audit --extra, of an object that is ignored in the store", ["audit", "--extra", "--ignore", "ab"], "s", ()),
+    Looking("an audit --quick", ["audit", "--quick"], "s", ()),
+    Looking("an audit --quick of what was never carried", ["audit", "--quick"], None, ()),
 ]
 
 

@@ -1,6 +1,6 @@
 """The built program's tests over real folders. tests/cases has the cases: carrying, refusing and options those of `migrate`, auditing and twins
-those of `audit`, extras those of `--extra`, checking those of `check`, checkinglimits of its limits and numbers, checkingshares of those of shares,
-watching of progress, events of the records beside the log, sharing of shares, dividing of shares by folders, scripted of tools/shares.py,
+those of `audit`, extras those of `--extra`, quick those of `--quick`, checking those of `check`, checkinglimits of its limits and numbers,
+checkingshares of those of shares, watching of progress, events of the records beside the log, sharing of shares, dividing of shares by folders, scripted of tools/shares.py,
 guarding of what it doesn't begin, sharestatus of what it tells of shares, started of how scripts are started, choosing of lists, peers beside
 plain Rust, surroundings of what is around a run, calls of single calls of the system, completions of what is made of
 the grammar, packages of what is shipped, anywhere of its programs, guide, guideroots and guidestores of the guide's commands, joining,
@@ -45,6 +45,7 @@ import options
 import packages
 import peers
 import program
+import quick
 import refusing
 import report
 import reportevents
@@ -62,8 +63,8 @@ import watching
 from tally import Tally
 
 FILES = (
-    carrying, auditing, twins, extras, checking, checkinglimits, checkingshares, refusing, options, events, watching, surroundings, calls, sharing, dividing,
-    scripted, guarding, sharestatus, started, choosing, peers, guide, guideroots, guidestores, joining, joiningfolders, sums, aside, report, reportevents,
+    carrying, auditing, twins, extras, quick, checking, checkinglimits, checkingshares, refusing, options, events, watching, surroundings, calls, sharing,
+    dividing, scripted, guarding, sharestatus, started, choosing, peers, guide, guideroots, guidestores, joining, joiningfolders, sums, aside, report, reportevents,
     reportstate, odd, completions, packages, anywhere, documents, resting, gate,
 )
 CASES = [case for file in FILES for case in file.CASES]

@@ -8,12 +8,12 @@ from roots_objects import BROKEN
 from roots_telling import Refused, say
 
 # The kinds of lines of an audit's log and, with the others, of a run's.
-AUDIT = ("absent", "differs", "end", "extra", "same", "skip", "stray")
+AUDIT = ("absent", "alike", "differs", "end", "extra", "same", "skip", "stray")
 ANY = (*AUDIT, "done", "present")
 # Those that tell of an object of the store: its identifier, the folder of its files in the store, and its place in the root.
-OF_OBJECTS = ("absent", "differs", "done", "present", "same")
-# What an end line counts, of an audit without and with --extra, and of a run. That of a check is no end of these.
-ENDS_OF_AUDITS = ({"absent", "differs", "same", "skip"}, {"absent", "differs", "extra", "same", "skip", "stray"})
+OF_OBJECTS = ("absent", "alike", "differs", "done", "present", "same")
+# What an end line counts, of an audit by bytes or by lengths, without and with --extra, and of a run. That of a check is no end of these.
+ENDS_OF_AUDITS = [{"absent", "differs", fit, "skip", *more} for fit in ("same", "alike") for more in ((), ("extra", "stray"))]
 END_OF_RUN = {"done", "present", "skip"}
 
 

@@ -78,7 +78,7 @@ def rows_of(inventory, is_stored):
 
 def sites_of(logs):
     """Where the files of each object of logs stood in the store, by its place. Of twins that is the one that was carried: the last line of `done`
-    or `same` tells, and where there is none the first of `present`."""
+    or `same` tells, and where there is none the first of `present` or `alike`."""
     carried, met = {}, {}
     for log in logs:
         for entry in log.entries(ANY):
@@ -86,7 +86,7 @@ def sites_of(logs):
             if entry["as"] in ("done", "same"):
                 carried[place] = site
                 met.pop(place, None)
-            elif entry["as"] == "present" and place not in carried:
+            elif entry["as"] in ("present", "alike") and place not in carried:
                 met.setdefault(place, site)
     carried.update(met)
     return carried

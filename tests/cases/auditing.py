@@ -85,9 +85,9 @@ def migrate(program, folder, *words):
     return done.stdout
 
 
-def own_order(identifier, files, algorithm):
+def own_order(identifier, files, algorithm, digests=None):
     """The entries of an object in the order in which it is made: its folders before what is in them."""
-    made, tree = [""], object_files(identifier, files, algorithm)
+    made, tree = [""], object_files(identifier, files, algorithm, digests)
     inventories = [f"{above}{name}" for above in ("v1/", "") for name in ("inventory.json", f"inventory.json.{algorithm}")]
     contents = [path for path in tree if path.startswith("v1/content/")]
     for path in ["0=ocfl_object_1.1", "v1", *contents, *inventories]:
@@ -108,11 +108,12 @@ def meta_in(text):
     return meta if all(isinstance(text, str) for text in texts) else {}
 
 
-def first_difference(found, identifier, files, algorithm="sha512"):
-    """The first difference of what stands at a place, by its paths there ('' the place itself), from the object; None where there is none."""
+def first_difference(found, identifier, files, algorithm="sha512", digests=None):
+    """The first difference of what stands at a place, by its paths there ('' the place itself), from the object with these digests, or those of its
+    files; None where there is none."""
     meta = meta_in(found.get("v1/inventory.json", b""))
-    wanted = object_files(identifier, files, algorithm, **meta)
-    order = own_order(identifier, files, algorithm)
+    wanted = object_files(identifier, files, algorithm, digests, **meta)
+    order = own_order(identifier, files, algorithm, digests)
     for path in order:
         if path not in found:
             return (path, MISSING)

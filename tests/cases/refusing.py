@@ -5,8 +5,8 @@ from stores import ABC, DIR, FIFO, GONE, LAYOUT_NAME, ONE, ONE_DONE, ONE_PRESENT
 from stores import done, front_of, object_files, root, staged, store, stored, with_folders
 
 
-def starts():
-    """What the source and the destination must be before anything is done, and which is asked first."""
+def sources():
+    """What the source must be before anything is done."""
     for name, source in {
         "an empty folder": {},
         "no version file": {"pairtree_root/ab/c/obj/a.txt": b"abc"},
@@ -28,6 +28,10 @@ def starts():
         "a pipe": FIFO,
     }.items():
         yield Case(f"no prefix: {name}", store({}, prefix), fault(6, {}))
+
+
+def starts():
+    """What the destination must be before anything is done, and which of the two is asked first."""
     left = {"staging": b"", "ocfl": b""}
     unversioned = {"pairtree_root": DIR, "pairtree_prefix": b"p" * 1025}
     yield Case(
@@ -306,5 +310,5 @@ def words_refused():
     yield Case("no name", ONE, refused_by_parser(MEANT[:2]))
 
 
-PARTS = (starts, unusable_roots, taken_places, folders, outputs, devices, scripts, words_taken, words_refused)
+PARTS = (sources, starts, unusable_roots, taken_places, folders, outputs, devices, scripts, words_taken, words_refused)
 CASES = [case for part in PARTS for case in part()]

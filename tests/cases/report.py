@@ -102,7 +102,8 @@ def unlike(at, identifier, path, why):
 def whole_audit(*entries):
     """The log of an audit that ends."""
     counts = collections.Counter(entry["as"] for entry in entries)
-    return lines(*entries, {"as": "end", **{kind: counts[kind] for kind in ("absent", "differs", "same", "skip")}})
+    fitting = "alike" if counts["alike"] else "same"
+    return lines(*entries, {"as": "end", **{kind: counts[kind] for kind in ("absent", "differs", fitting, "skip")}})
 
 
 RUN = (

@@ -18,6 +18,7 @@ SECOND = [present("aa/obj", "aa"), present("ab/obj", "ab"), sized("sp/obj", "sp"
 SAME = [sized("aa/obj", "aa", 10, files=2, empty=1, kind="same"), sized("ab/obj", "ab", 1000, files=3, kind="same")]
 EARLY, LAST = [*SAME, skip("sp", "split"), *ASIDE], [*SAME, sized("sp/obj", "sp", 500, kind="same"), *ASIDE]
 OTHER = [SAME[0], unlike("ab/obj", "ab", "v1/content/f", "bytes"), sized("sp/obj", "sp", 500, kind="same"), *ASIDE]
+ALIKE = [{"as": "alike", "at": f"{name}/obj", "files": 1, "id": name, "to": name} for name in ("aa", "ab", "sp")]
 GONE = [absent("aa/obj", "aa"), SAME[1], sized("sp/obj", "sp", 500, kind="same"), *ASIDE]
 ONE = [("1 folder", 1), ("2 objects", 2), ("1.0 kB", 3), ("5 files", 3), ("0 objects", 4), ("3 folders", 5), ("0 identifiers", 6), ("1 empty folder", 7)]
 ALL = [("0 folders", 1), ("3 objects", 2), ("1.5 kB", 3), ("6 files", 3), ("0 objects", 4), ("2 folders", 5), ("0 identifiers", 6), ("1 empty folder", 7)]
@@ -71,7 +72,17 @@ STATES = {
         "Nothing is missing: the one object stands in the root, found the same as in the store by an audit."
     )),
     "present alone": ([whole_log(*SECOND)], [("1 object", 2), ("500 B", 3), ("1 file", 3)], (
-        "Not done yet: 2 folders are <code>present</code> alone: what stands at their places wasn't compared."
+        "Not done yet: 2 folders are <code>present</code> or <code>alike</code> alone: the bytes at their places weren't compared."
+    )),
+    "alike alone": ([whole_audit(*ALIKE, *ASIDE)], [("0 objects", 2)], (
+        "Not done yet: 3 folders are <code>present</code> or <code>alike</code> alone: the bytes at their places weren't compared."
+    )),
+    "a run and a quick audit": ([whole_log(*FIRST), whole_log(*SECOND), whole_audit(*ALIKE, *ASIDE)], ALL, (
+        f"{WHOLE}, as the runs tell. No audit has compared them yet.{READ}"
+    )),
+    "a quick audit behind a whole one": ([whole_audit(*LAST), whole_audit(*ALIKE, *ASIDE)], ALL, f"{WHOLE}, found the same as in the store by an audit.{READ}"),
+    "one that differs, and is alike": ([whole_audit(*OTHER), whole_audit(*ALIKE, *ASIDE)], [("2 objects", 2), ("1 object", 4)], (
+        "Not done yet: 1 object of the root is another than in the store."
     )),
     "a twin": ([whole_log(done("a/obj", "x", {}), present("b/obj", "x"))], [("1 object", 2), ("1 identifier", 6)], (
         "Not done yet: 1 identifier has several folders, of which one was carried."

@@ -154,11 +154,11 @@ def walk_order(path):
     return [name.encode() for name in path.split("/")]
 
 
-def object_files(identifier, files, algorithm="sha512", **version):
-    """The files of an object with these contents; `version` has what differs from the plain command."""
+def object_files(identifier, files, algorithm="sha512", digests=None, **version):
+    """The files of an object with these contents, and with these digests of its paths, or their own; `version` has what differs from the plain command."""
     manifest, state, tree = {}, {}, {"0=ocfl_object_1.1": b"ocfl_object_1.1\n"}
     for path in sorted(files, key=walk_order):
-        digest = hashlib.new(algorithm, files[path]).hexdigest()
+        digest = digests[path] if digests else hashlib.new(algorithm, files[path]).hexdigest()
         if digest not in manifest:
             manifest[digest] = [f"v1/content/{path}"]
             tree[f"v1/content/{path}"] = files[path]
