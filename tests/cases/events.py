@@ -29,7 +29,7 @@ TROUBLES += ("spelling", "other", "long", "many", "large", "place", "width", "de
 BOTH = {"digest": "sha512", "tuple-size": 3, "tuples": 3, "gather": False, "share": "1/1", "only": [], "ignore": [], "verbose": False, "quiet": False}
 BOTH |= {"progress": "auto", "interval": 10}
 OF_RUN = {**BOTH, "created": MEANT[1], "name": MEANT[3], "message": "Migrated from Pairtree", "sync": False, "dry-run": False, "present-ok": False, "skips-ok": False}
-OF_AUDIT = {**BOTH, "skips-ok": False, "extra": False}
+OF_AUDIT = {**BOTH, "skips-ok": False, "extra": False, "quick": False}
 OF_CHECK = {key: BOTH[key] for key in BOTH if key != "digest"} | {"read": False}
 
 
