@@ -6,7 +6,7 @@ use crate::expected_roots::{DIGEST, Files, INVENTORY, ROOT, STORE};
 use crate::jobs::{Settings, make_job};
 use crate::spoiled_stores::ItFailed;
 use pt_audit::{AuditTask, CompareBy, Counts};
-use pt_extra::{AuditCounts, ExtraDevices, ExtraNumbers, audit};
+use pt_extra::{AuditCounts, AuditEnd, ExtraDevices, ExtraNumbers, audit};
 use pt_memory::texts::{add, store};
 use pt_memory::{MemLog, MemSource, SpoiledSource};
 use pt_move::{Fault, NoObserver};
@@ -219,8 +219,13 @@ fn audited(
         job: make_job(alloc, Settings::Usual)?,
         by: row.by,
     };
-    let end = audit(alloc, devices, task, row.with_extras, &NoObserver);
-    Some((end.ran, end.devices.log))
+    let AuditEnd {
+        ran,
+        devices,
+        ..
+    } = audit(alloc, devices, task, row.with_extras, &NoObserver);
+    let ExtraDevices { log, .. } = devices;
+    Some((ran, log))
 }
 
 fn holds(alloc: Global, row: &Row) -> bool {
