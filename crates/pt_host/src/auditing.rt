@@ -58,7 +58,9 @@ where
     let alloc = rt.alloc();
     let tally = Tally::new();
     let by = compare_by(options.quick);
-    let watching = options.feedback.watching(words_of(options.extra, by), expected);
+    let watching = options
+        .feedback
+        .watching(words_of(options.extra, by), expected);
     let account = Account::new(watching, &options.feedback, &options.ignored, folders);
     let AuditSides { source, root, log } = open_sides(alloc, parts, options.ignored, folders);
     let (store, log) = account.watch(rt, &tally, source, log);

@@ -72,9 +72,7 @@ fn see<S: System, D: System, W>(
 }
 
 // What is lent that was seen so.
-fn within<S: System, D: System, W>(
-    seen: HostIo<ByLengths<S>, ByLengths<D>, W>,
-) -> HostIo<S, D, W>
+fn within<S: System, D: System, W>(seen: HostIo<ByLengths<S>, ByLengths<D>, W>) -> HostIo<S, D, W>
     ensures { result ≡ io_within seen }
 {
     HostIo {

@@ -219,11 +219,7 @@ fn audited(
         job: make_job(alloc, Settings::Usual)?,
         by: row.by,
     };
-    let AuditEnd {
-        ran,
-        devices,
-        ..
-    } = audit(alloc, devices, task, row.with_extras, &NoObserver);
+    let AuditEnd { ran, devices, .. } = audit(alloc, devices, task, row.with_extras, &NoObserver);
     let ExtraDevices { log, .. } = devices;
     Some((ran, log))
 }

@@ -20,7 +20,10 @@ const ROWS: &[(&str, Row)] = &[
     ("rehearsed after", Row::RehearseAfter),
     ("stopped and carried again", Row::Stop),
     ("audited both ways, and stopped at each call", Row::Audit),
-    ("audited by lengths, and stopped at each call", Row::QuickAudit),
+    (
+        "audited by lengths, and stopped at each call",
+        Row::QuickAudit,
+    ),
 ];
 
 /// Tries each row over each case.
